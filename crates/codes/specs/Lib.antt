@@ -1,2 +1,3 @@
+pub mod Codewords
 pub mod Matrix
 pub mod Shapes
