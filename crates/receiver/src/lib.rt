@@ -1,0 +1,14 @@
+// The receiver: a block of packets over the caller's table, and the permit under which packets are handed out.
+mod block;
+mod fault;
+mod permit;
+
+pub use block::Block;
+pub use block::Marks;
+pub use block::Out;
+pub use fault::Fault;
+pub use fault::Report;
+pub use fault::Stamp;
+pub use fault::Unsolved;
+pub use permit::Permit;
+pub use permit::Unclosed;
