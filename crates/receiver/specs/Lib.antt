@@ -1,2 +1,7 @@
 pub mod Refusals
 pub mod Calls
+pub mod History
+pub mod Blocks
+pub mod Steps
+pub mod Stands
+pub mod View

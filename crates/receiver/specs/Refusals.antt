@@ -1,10 +1,12 @@
 -- Refusals: the number of each, and the values that it returns.
 --
 --   Refusal       a number with its values
+--   value-of      the first of the values
 --   meaning       what a fault of a block means
 --   unsolved      what it means that a solve gave no permit
 use mathlib.Core.List.{List, [], _∷_}
 use Prim.Native.Nat.{ℕ}
+use lib.ListN.{getD}
 use Rattle.receiver.specs.declared.fault.Fault.{Fault}
 use Rattle.receiver.specs.declared.fault.Fault.the-variants.{BlockNumber, NoStamp, TableLength, OtherWidth, PermitOut, OtherBlock, OtherStamp, NoPlace, Received, NotLater, ShortMemory, NotItsPermit}
 use Rattle.receiver.specs.declared.fault.Unsolved.{Unsolved}
@@ -16,6 +18,10 @@ pub record Refusal : Type 0 where
 
 abbrev pub refusal-of : ℕ → List ℕ → Refusal
 refusal-of k vs = record { number = k; values = vs }
+
+-- the first value, 0 where there is none
+abbrev pub value-of : Refusal → ℕ
+value-of r = getD (r .values) 0 0
 
 abbrev pub meaning : Fault → Refusal
 meaning (BlockNumber b) = refusal-of 2 (b ∷ [])

@@ -5,6 +5,8 @@ ghost use lib.ListN.{length};
 ghost use denote.Ref.{now};
 use crate::fault::Stamp;
 
+mod calls;
+
 // Whether a permit is out.
 #[derive(Clone, Copy)]
 pub enum Out {
