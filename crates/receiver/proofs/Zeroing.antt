@@ -5,7 +5,7 @@ use mathlib.Core.List.{List, [], _∷_, _++_}
 use Prim.Native.Nat.{ℕ, zero, suc, _+_, _<_, _≤_}
 use native.Mathlib.Numerals.{add-one}
 use native.Mathlib.Omega.{arith}
-use lib.ListN.{length, getD, set, take, drop, replicate}
+use lib.ListN.{length, getD, set, take, drop, replicate, length-append, length-replicate, length-drop}
 use Rattle.std.proofs.shelf.Lists.{take-replicate}
 use Rattle.std.proofs.shelf.Tests.{both-ways}
 use Rattle.receiver.specs.Blocks.{zero-missing}
@@ -43,3 +43,24 @@ module _ {S : Type 0} (z : S) where
 
   pub all-missing : (n : ℕ) (xs : List S) → n ≤ 512 → n ≤ length xs → zero-missing z (take n (replicate 512 false)) xs ≡ replicate n z ++ drop n xs
   all-missing n xs few fits = ap (λ rs. zero-missing z rs xs) (take-replicate n 512 false few) ∙ none-received n xs fits
+
+  -- a received place keeps its symbol
+  pub getD-zero-missing : (rs : List Bool) (xs : List S) (n p : ℕ) → p < n → getD rs p false ≡ true → getD (zero-missing z (take n rs) xs) p z ≡ getD xs p z
+  getD-zero-missing rs xs zero p lt e = absurd (omega arith)
+  getD-zero-missing [] xs (suc n) p lt e = refl
+  getD-zero-missing (r ∷ rs) [] (suc n) p lt e = refl
+  getD-zero-missing (true ∷ rs) (x ∷ xs) (suc n) zero lt e = refl
+  getD-zero-missing (false ∷ rs) (x ∷ xs) (suc n) zero lt e = absurd (both-ways false refl e)
+  getD-zero-missing (true ∷ rs) (x ∷ xs) (suc n) (suc p) lt e = getD-zero-missing rs xs n p (omega arith) e
+  getD-zero-missing (false ∷ rs) (x ∷ xs) (suc n) (suc p) lt e = getD-zero-missing rs xs n p (omega arith) e
+
+  pub length-zero-missing : (rs : List Bool) (xs : List S) → length (zero-missing z rs xs) ≡ length xs
+  length-zero-missing [] xs = refl
+  length-zero-missing (r ∷ rs) [] = refl
+  length-zero-missing (true ∷ rs) (x ∷ xs) = ap suc (length-zero-missing rs xs)
+  length-zero-missing (false ∷ rs) (x ∷ xs) = ap suc (length-zero-missing rs xs)
+
+  -- zeros over a whole table, and as many
+  pub length-zeroed : (n : ℕ) (xs : List S) → length xs ≡ n → length (replicate n z ++ drop n xs) ≡ n
+  length-zeroed n xs e =
+      omega (arith, length-append (replicate n z) (drop n xs), length-replicate n z, length-drop n xs, e)

@@ -1,0 +1,88 @@
+-- What a solve does, by the method: its answer, the block, the policy and the working memory after it.
+--
+--   outcome       what the method answers on a block's received places, with a policy from a state of it
+--   named         the columns that the policy names there
+--   found-of      the answer of the search, with the block's numbers in the permit
+--   after-search  the block after the search: with one codeword its places are filled and a permit is out
+--   Done          all that a solve leaves
+--   solved        what a solve leaves, of a block, a policy and working memory
+--   solve-event   the event that a solve and its answer make
+use mathlib.Core.Bool.{Bool, false}
+use mathlib.Core.List.{List, [], _∷_, _++_}
+use Prim.Native.Nat.{ℕ, _*_}
+use lib.ListN.{length, take, drop, replicate}
+use Rattle.std.specs.declared.option.Option.{Option}
+use Rattle.std.specs.declared.option.Option.the-variants.{Some, None}
+use Rattle.std.specs.declared.result.Result.{Result}
+use Rattle.std.specs.declared.result.Result.the-variants.{Ok, Err}
+use Rattle.symbols.specs.Kinds.{Kind}
+use Rattle.codes.specs.Matrix.{Matrix, height}
+use Rattle.method.specs.Method.{Choice, Outcome, method, final}
+use Rattle.method.specs.Method.Outcome.{none, one, several}
+use Rattle.receiver.specs.declared.block.Out.the-variants.{Full}
+use Rattle.receiver.specs.declared.fault.Fault.{Fault}
+use Rattle.receiver.specs.declared.fault.Report.{Report}
+use Rattle.receiver.specs.declared.fault.Unsolved.{Unsolved}
+use Rattle.receiver.specs.declared.fault.Unsolved.the-variants.{Refused, NoCodeword, Several}
+use Rattle.receiver.specs.declared.permit.Permit.{Permit}
+use Rattle.receiver.specs.Calls.{Search, refusal}
+use Rattle.receiver.specs.Calls.Call.{solve}
+use Rattle.receiver.specs.History.{Event, Found}
+use Rattle.receiver.specs.History.Event.{refused, searched}
+use Rattle.receiver.specs.History.Found.{permit, no-codeword, several-codewords}
+use Rattle.receiver.specs.Blocks.{Block, seen, with-table}
+
+-- what a solve is handed, as its refusals see it
+abbrev pub search-of : Matrix → (words symbols : ℕ) → Search
+search-of k ws ss = record { code = k; words = ws; symbols = ss }
+
+abbrev pub report-of : (pivots additions : ℕ) → Report
+report-of p a = record { pivots = p; additions = a }
+
+abbrev pub found-of : {S : Type 0} → Block S → Outcome S → Found
+found-of m (none p a) = no-codeword (report-of p a)
+found-of m (one p a w) = permit (record { number = m .number; stamp = m .stamp; report = report-of p a })
+found-of m (several p a k) = several-codewords (report-of p a) k
+
+abbrev pub after-search : {S : Type 0} → Block S → Outcome S → Block S
+after-search m (none p a) = m
+after-search m (one p a w) = with-table (w ++ drop (m .n) (m .table)) (m .received) Full m
+after-search m (several p a k) = m
+
+abbrev pub answer-of : Found → Result Permit Unsolved
+answer-of (permit q) = Ok q
+answer-of (no-codeword r) = Err (NoCodeword r)
+answer-of (several-codewords r k) = Err (Several r k)
+
+abbrev pub solve-event : {S : Type 0} → Search → List ℕ → Result Permit Unsolved → Event S
+solve-event s cs (Ok q) = searched s cs (permit q)
+solve-event s cs (Err (Refused f)) = refused (solve s) f
+solve-event s cs (Err (NoCodeword r)) = searched s cs (no-codeword r)
+solve-event s cs (Err (Several r k)) = searched s cs (several-codewords r k)
+
+pub record Done (S P : Type 0) : Type 0 where
+  pub answer : Result Permit Unsolved
+  pub block : Block S
+  pub policy : P
+  pub words : List ℕ
+  pub sides : List S
+
+module _ {S P : Type 0} (K : Kind S) (choice : Matrix → Choice P) (k : Matrix) (m : Block S) (p : P) where
+  abbrev pub outcome : Outcome S
+  outcome = method K (choice k) k (take (m .n) (m .received)) (take (m .n) (m .table)) p
+
+  abbrev pub named : List ℕ
+  named = final K (choice k) k (take (m .n) (m .received)) (take (m .n) (m .table)) p .pivots
+
+  abbrev pub solved-by : Option Fault → List ℕ → List S → Done S P
+  solved-by (Some f) ws ss = record { answer = Err (Refused f); block = m; policy = p; words = ws; sides = ss }
+  solved-by None ws ss = record {
+    answer = answer-of (found-of m outcome);
+    block = after-search m outcome;
+    policy = final K (choice k) k (take (m .n) (m .received)) (take (m .n) (m .table)) p .policy;
+    words = replicate (8 * height k) 0 ++ drop (8 * height k) ws;
+    sides = replicate (height k) (K .zero) ++ drop (height k) ss;
+  }
+
+  abbrev pub solved : List ℕ → List S → Done S P
+  solved ws ss = solved-by (refusal K (seen m) (solve (search-of k (length ws) (length ss)))) ws ss
