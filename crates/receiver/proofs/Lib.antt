@@ -4,3 +4,4 @@ pub mod Refusing
 pub mod Stalls
 pub mod Packets
 pub mod Law
+pub mod Searching
