@@ -1,0 +1,6 @@
+pub mod Marks  -- sets as marks: what is in them
+pub mod Sums  -- sums of symbols over sets and over listed places
+pub mod Counts  -- how many are marked, how often a number is listed, how many rows are used for it
+pub mod Rows  -- what using a row does to the rows, and what every search keeps
+pub mod Loop  -- one step more, a search that has ended, one pivot more
+pub mod Run  -- a search keeps it, step by step and to its end

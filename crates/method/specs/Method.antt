@@ -54,7 +54,7 @@ is-none (Some c) = false
 
 abbrev pub names : ℕ → Option ℕ → Bool
 names c None = false
-names c (Some d) = eqb c d
+names c (Some d) = eqb d c
 
 abbrev pub row-holds : {S : Type 0} → ℕ → Row S → Bool
 row-holds c q = has (q .cols) c
@@ -159,6 +159,9 @@ module _ {S : Type 0} (K : Kind S) where
     used = None;
   }
 
+  abbrev pub start-rows : Matrix → List Bool → List S → List (Row S)
+  start-rows k got syms = map (start-row (k .width) got syms) (k .rows)
+
   module _ {P : Type 0} where
     -- row r is used for c, which is no longer active
     abbrev pub spend : ℕ → ℕ → State S P → State S P
@@ -173,7 +176,7 @@ module _ {S : Type 0} (K : Kind S) where
 
     abbrev pub start : Matrix → List Bool → List S → P → State S P
     start k got syms p = record {
-      rows = map (start-row (k .width) got syms) (k .rows);
+      rows = start-rows k got syms;
       active = missing got;
       pivots = [];
       free = [];
