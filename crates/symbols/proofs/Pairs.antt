@@ -16,8 +16,8 @@ pair-laws {A} {B} K L k l = record {
   cancels = λ x. ap₂ pair-of (k .cancels (x .first)) (l .cancels (x .second));
   distinct = λ e. k .distinct (ap (λ (p : Pair A B). p .first) e);
   tells-zero = λ x.
-    decides-like (K .isZero (x .first) && L .isZero (x .second))
-    (λ p. ap₂ pair-of (p .0) (p .1))
-    (λ e. (ap (λ (p : Pair A B). p .first) e, ap (λ (p : Pair A B). p .second) e))
-    (decides-and (K .isZero (x .first)) (L .isZero (x .second)) (k .tells-zero (x .first)) (l .tells-zero (x .second)));
+      decides-like (K .isZero (x .first) && L .isZero (x .second))
+      (λ p. ap₂ pair-of (p .0) (p .1))
+      (λ e. (ap (λ (p : Pair A B). p .first) e, ap (λ (p : Pair A B). p .second) e))
+      (decides-and (K .isZero (x .first)) (L .isZero (x .second)) (k .tells-zero (x .first)) (l .tells-zero (x .second)));
 }

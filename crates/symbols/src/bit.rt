@@ -1,6 +1,7 @@
 // The bit as a symbol: exclusive or.
 ghost use Rattle.symbols.specs.Bits.{bit-kind};
 use crate::kinds::Bit;
+use crate::kinds::BitPartialEq;
 use crate::symbol::Symbol;
 
 pub impl Symbol for Bit as BitSymbol {
@@ -23,9 +24,6 @@ pub impl Symbol for Bit as BitSymbol {
     }
 
     fn is_zero(&self) -> bool {
-        match *self {
-            Bit::Zero => true,
-            Bit::One => false,
-        }
+        *self == Bit::Zero
     }
 }

@@ -14,11 +14,19 @@ impl Cell {
         ensures value { λ r. ⌜ r ≡ cell-of bytes ⌝ }
         ensures holds { λ r. ⌜ r .bytes ≡ bytes ⌝ }
     {
-        Cell { bytes }
+        of_bytes(bytes)
     }
 }
 
-// Whether every byte is zero. All are looked at, which is faster than to stop at the first that is not.
+// The one place where a cell is made, and tied to the cell of the logic.
+fn of_bytes(bytes: [u8; 64]) -> Cell
+    ensures value { λ r. ⌜ r ≡ cell-of bytes ⌝ }
+    ensures holds { λ r. ⌜ r .bytes ≡ bytes ⌝ }
+{
+    Cell { bytes }
+}
+
+// Whether every byte is zero. The loop has no early exit, so that it compiles to vector code.
 fn all_zero(bytes: &[u8; 64]) -> bool
     ensures { λ r. ⌜ Decides r ((k : ℕ) → k < 64 → getD (now (bytes .entry)) k 0 ≡ 0) ⌝ }
 {
@@ -33,18 +41,18 @@ pub impl Symbol for Cell as CellSymbol {
     ghost kind = { cell-kind };
 
     fn zero() -> Cell {
-        Cell::new([0; 64])
+        of_bytes([0; 64])
     }
 
     fn unit() -> Cell {
-        let mut bytes = [0; 64];
-        bytes[0] = 1;
-        Cell::new(bytes)
+        let mut one = [0; 64];
+        one[0] = 1;
+        of_bytes(one)
     }
 
     fn add(&mut self, other: &Cell) {
         let sum = u8x64::from_array(self.bytes) ^ u8x64::from_array(other.bytes);
-        *self = Cell::new(sum.to_array());
+        *self = of_bytes(sum.to_array());
     }
 
     fn is_zero(&self) -> bool {

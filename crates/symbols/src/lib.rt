@@ -5,6 +5,8 @@ mod kinds;
 mod pair;
 mod sums;
 mod symbol;
+#[cfg(test)]
+mod tests;
 mod word;
 
 pub use bit::BitSymbol;

@@ -7,11 +7,17 @@ pub impl<A: Symbol, B: Symbol> Symbol for Pair<A, B> as PairSymbol {
     ghost kind = { pair-kind (A·Symbol .kind) (B·Symbol .kind) };
 
     fn zero() -> Pair<A, B> {
-        Pair { first: A::zero(), second: B::zero() }
+        Pair {
+            first: A::zero(),
+            second: B::zero(),
+        }
     }
 
     fn unit() -> Pair<A, B> {
-        Pair { first: A::unit(), second: B::zero() }
+        Pair {
+            first: A::unit(),
+            second: B::zero(),
+        }
     }
 
     fn add(&mut self, other: &Pair<A, B>) {

@@ -13,9 +13,9 @@ returns c =
     let x = c .args .self .now in
     same-from-decides _ _
     (
-      decides-like _
-      (λ zero. same-lists (x .bytes) (replicate 64 0) (x .full) (λ k d h. getD-default (x .bytes) k d 0 h ∙ zero k (omega (arith, x .full)) ∙ sym (getD-replicate 64 k 0 d (omega (arith, x .full)))))
-      (λ e k h. ap (λ (bs : List ℕ). getD bs k 0) e ∙ getD-replicate 64 k 0 0 h)
-      (c .all-zero .ensures)
+    decides-like _
+    (λ zero. same-lists (x .bytes) (replicate 64 0) (x .full) (λ k d h. getD-default (x .bytes) k d 0 h ∙ zero k (omega (arith, x .full)) ∙ sym (getD-replicate 64 k 0 d (omega (arith, x .full)))))
+    (λ e k h. ap (λ (bs : List ℕ). getD bs k 0) e ∙ getD-replicate 64 k 0 0 h)
+    (c .all-zero .ensures)
     )
     (sameBytes-decides (x .bytes) (replicate 64 0))

@@ -16,7 +16,7 @@ pub lawful-law : need.lawful-law
 lawful-law = record {
   sums = record {
     associative = λ x y z.
-      ap cell-of (ap (λ l. zip2 bitXor l (z .bytes)) (sum-bytes x y) ∙ xors-assoc (x .bytes) (y .bytes) (z .bytes) ∙ ap (zip2 bitXor (x .bytes)) (sym (sum-bytes y z)));
+        ap cell-of (ap (λ l. zip2 bitXor l (z .bytes)) (sum-bytes x y) ∙ xors-assoc (x .bytes) (y .bytes) (z .bytes) ∙ ap (zip2 bitXor (x .bytes)) (sym (sum-bytes y z)));
     commutative = λ x y. ap cell-of (xors-comm (x .bytes) (y .bytes));
     identity = λ x. same-cell _ _ (ap fitted (ap (λ n. zip2 bitXor (replicate n 0) (x .bytes)) (sym (x .full)) ∙ xors-zero (x .bytes)) ∙ fitted-is (x .bytes) (x .full));
   };
