@@ -8,20 +8,21 @@ use native.Mathlib.Omega.{arith}
 use lib.Dec.{eqb, leb, ltb}
 use lib.ListN.{length, getD, set, take, drop, replicate, length-set, length-replicate, getD-replicate}
 use lib.Seq.{getD-set-same, getD-set-other}
-use borrow.Author.Tests.{eqb-true, eqb-false, leb-true, leb-false, not-false, clash, both-ways}
+use borrow.Author.Tests.{eqb-true, eqb-false, leb-true, leb-false, ltb-false, not-false, clash, both-ways}
 use Rattle.std.specs.shelf.Lists.{All}
 use Rattle.std.proofs.shelf.Elements.{all-weaker}
 use Rattle.std.specs.declared.option.Option.{Option}
 use Rattle.std.specs.declared.option.Option.the-variants.{Some, None}
 use Rattle.symbols.specs.Kinds.{Kind}
 use Rattle.receiver.specs.declared.block.Out.the-variants.{Nothing, Full}
-use Rattle.receiver.specs.Calls.{Call, refusal}
+use Rattle.receiver.specs.declared.fault.Fault.the-variants.{BlockNumber, NoStamp, TableLength}
+use Rattle.receiver.specs.Calls.{Call, refusal, open-refusal}
 use Rattle.receiver.specs.Calls.Call.{receive, solve, show, close, renew}
 use Rattle.receiver.specs.History.{Opened, Event, Packet, Solved, Told, after, told, borne, missing, view, Agrees, Under, InFound, Truth}
 use Rattle.receiver.specs.History.Event.{refused, unread, received, searched, shown, closed, renewed}
-use Rattle.receiver.specs.Blocks.{Block, seen, zero-missing, closed-block, renewed-block}
+use Rattle.receiver.specs.Blocks.{Block, seen, zero-missing, closed-block, renewed-block, opened, opened-by}
 use Rattle.receiver.specs.Steps.{Step}
-use Rattle.receiver.specs.Stands.{Kept, IsFound, Tied, Stands, GoesOn}
+use Rattle.receiver.specs.Stands.{opening, Kept, IsFound, Tied, Stands, GoesOn}
 use Rattle.receiver.proofs.Refusing.{no-cause, refusal-same, owned, not-out, nothing-full}
 use Rattle.receiver.proofs.Packets.{all-both, all-borne, some-bears}
 use Rattle.receiver.proofs.Zeroing.{getD-zero-missing, length-zero-missing, length-zeroed}
@@ -138,3 +139,18 @@ module _ {S : Type 0} (K : Kind S) where
   pub starts : (o : Opened) (m : Block S) → m .number ≡ o .number → m .stamp ≡ o .stamp → m .n ≡ o .places → m .out ≡ Nothing → length (m .table) ≡ m .n → m .n ≤ 512 → m .received ≡ replicate 512 false → Stands K o [] m
   starts o m number stamp places off whole few flags =
       record { truths = tt; tied = fresh-tied o (told o []) m number stamp places off off whole few flags refl }
+
+  pub opens : (b s : ℕ) (xs : List S) (m : Block S) → m ≡ opened K b s xs → open-refusal b s (length xs) ≡ None → Stands K (opening b s (length xs)) [] m
+  opens b s xs m is granted =
+      let a = no-cause (ltb 4095 b) (BlockNumber b) _ granted in
+      let c = no-cause (eqb s 0) NoStamp _ (a .1) in
+      let e = no-cause _ (TableLength (length xs)) None (c .1) in
+      subst (Stands K (opening b s (length xs)) []) (sym (is ∙ ap (λ r. opened-by K r b s xs) granted))
+        (starts (opening b s (length xs)) (opened-by K None b s xs) refl refl refl refl (length-zeroed (K .zero) (length xs) xs refl) (few (length xs) (e .0)) refl)
+    where
+      few : (n : ℕ) → (eqb n 0 || ltb 512 n) ≡ false → n ≤ 512
+      few n e = go (eqb n 0) e
+        where
+          go : (b : Bool) → (b || ltb 512 n) ≡ false → n ≤ 512
+          go true f = absurd (clash (sym f))
+          go false f = ltb-false 512 n f

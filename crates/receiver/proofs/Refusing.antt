@@ -8,6 +8,7 @@ use lib.Dec.{eqb, leb, ltb}
 use borrow.Author.Tests.{eqb-true, leb-false, clash}
 use Rattle.std.specs.declared.option.Option.{Option}
 use Rattle.std.specs.declared.option.Option.the-variants.{Some, None}
+use Rattle.refusals.specs.Refusals.{if-so, first-of}
 use Rattle.symbols.specs.Kinds.{Kind}
 use Rattle.codes.specs.Matrix.{height}
 use Rattle.receiver.specs.declared.block.Out.{Out}
@@ -15,7 +16,7 @@ use Rattle.receiver.specs.declared.block.Out.the-variants.{Nothing, Full}
 use Rattle.receiver.specs.declared.permit.Permit.{Permit}
 use Rattle.receiver.specs.declared.fault.Fault.{Fault}
 use Rattle.receiver.specs.declared.fault.Fault.the-variants.{NoStamp, OtherWidth, PermitOut, OtherBlock, OtherStamp, NoPlace, Received, NotLater, ShortMemory, NotItsPermit}
-use Rattle.receiver.specs.Calls.{Search, Call, View, Cause, is-out, owns, if-so, first-of, too-short, refusal}
+use Rattle.receiver.specs.Calls.{Search, Call, View, is-out, owns, too-short, refusal}
 use Rattle.receiver.specs.Calls.Call.{receive, solve, show, close, renew}
 
 -- where no cause holds, the first does not, and none of the rest

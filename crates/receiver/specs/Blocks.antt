@@ -6,7 +6,7 @@
 --   Step          what each call does: its answer, by the first cause that refuses it, and the block after it
 --   zero-missing  a table with each missing place zero
 use mathlib.Core.Path.{_≡_}
-use mathlib.Core.Bool.{Bool, true, false}
+use mathlib.Core.Bool.{Bool, true, false, cond}
 use mathlib.Core.List.{List, [], _∷_, _++_}
 use Prim.Native.Nat.{ℕ}
 use lib.Dec.{eqb}
@@ -35,6 +35,10 @@ pub record Block (S : Type 0) : Type 0 where
 
 abbrev pub seen : {S : Type 0} → Block S → View
 seen m = record { number = m .number; stamp = m .stamp; places = m .n; out = m .out; has = λ p. getD (m .received) p false }
+
+-- what a block tells of the refusal of its open
+abbrev pub told-refusal : {S : Type 0} → Block S → Option (ℕ × ℕ)
+told-refusal m = cond (eqb (m .refusal) 0) None (Some (m .refusal, m .value))
 
 abbrev pub zero-missing : {S : Type 0} → S → List Bool → List S → List S
 zero-missing z [] xs = xs

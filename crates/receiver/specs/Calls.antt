@@ -13,6 +13,7 @@ use Prim.Native.Nat.{ℕ, _*_}
 use lib.Dec.{eqb, leb, ltb}
 use Rattle.std.specs.declared.option.Option.{Option}
 use Rattle.std.specs.declared.option.Option.the-variants.{Some, None}
+use Rattle.refusals.specs.Refusals.{Cause, if-so, first-of}
 use Rattle.symbols.specs.Kinds.{Kind}
 use Rattle.codes.specs.Matrix.{Matrix, height}
 use Rattle.receiver.specs.declared.block.Out.{Out}
@@ -48,21 +49,10 @@ is-out Full = true
 abbrev pub owns : View → Permit → Bool
 owns v q = is-out (v .out) && (eqb (q .number) (v .number) && eqb (q .stamp) (v .stamp))
 
-pub record Cause : Type 0 where
-  pub holds : Bool
-  pub gives : Fault
-
-abbrev pub if-so : Bool → Fault → Cause
-if-so b f = record { holds = b; gives = f }
-
-abbrev pub first-of : List Cause → Option Fault
-first-of [] = None
-first-of (x ∷ xs) = cond (x .holds) (Some (x .gives)) (first-of xs)
-
 abbrev pub too-short : Search → Bool
 too-short s = ltb (s .words) (8 * height (s .code)) || ltb (s .symbols) (height (s .code))
 
-abbrev pub causes : {S : Type 0} → Kind S → View → Call S → List Cause
+abbrev pub causes : {S : Type 0} → Kind S → View → Call S → List (Cause Fault)
 causes K v (receive b s p x) =
     if-so (is-out (v .out)) (PermitOut (v .stamp))
     ∷ if-so (not (eqb b (v .number))) (OtherBlock b)

@@ -1,5 +1,6 @@
 -- How a history stands of a block: every event of it was true when it came, and the block is as they tell.
 --
+--   opening       what an open was handed
 --   Kept          what a block keeps of a packet taken
 --   Tied          the block's values are what the calls and answers tell
 --   Stands        the events were true, and the block is tied to them
@@ -17,6 +18,9 @@ use Rattle.method.specs.Fillings.{Only}
 use Rattle.receiver.specs.declared.block.Out.the-variants.{Nothing, Full}
 use Rattle.receiver.specs.History.{Opened, Event, Packet, Solved, Told, told, borne, Agrees, Truths}
 use Rattle.receiver.specs.Blocks.{Block}
+
+abbrev pub opening : (number stamp places : ℕ) → Opened
+opening b s n = record { number = b; stamp = s; places = n }
 
 module _ {S : Type 0} (K : Kind S) where
   pub record Kept (m : Block S) (k : Packet S) : Type 0 where
