@@ -5,3 +5,5 @@ pub mod Stalls
 pub mod Packets
 pub mod Law
 pub mod Searching
+pub mod Bytes
+pub mod Running

@@ -5,4 +5,5 @@ pub mod Blocks
 pub mod Steps
 pub mod Solves
 pub mod Stands
+pub mod Runs
 pub mod View

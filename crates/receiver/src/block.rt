@@ -6,6 +6,7 @@ ghost use denote.Ref.{now};
 use crate::fault::Stamp;
 
 mod calls;
+mod runs;
 mod steps;
 
 // Whether a permit is out.

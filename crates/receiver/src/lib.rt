@@ -2,6 +2,7 @@
 mod block;
 mod fault;
 mod permit;
+mod run;
 
 pub use block::Block;
 pub use block::Marks;
@@ -12,3 +13,7 @@ pub use fault::Stamp;
 pub use fault::Unsolved;
 pub use permit::Permit;
 pub use permit::Unclosed;
+pub use run::Layer;
+pub use run::LayerFromBlock;
+pub use run::LayerFromHeader;
+pub use run::Stopped;
