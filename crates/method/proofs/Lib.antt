@@ -7,3 +7,4 @@ pub mod Run  -- a search keeps it, step by step and to its end
 pub mod Codes  -- a code's rows and the rows of a start have the same solutions
 pub mod Final  -- what a search has come to at its end, and its solutions
 pub mod Tells  -- the answer tells exactly how many codewords agree
+pub mod Peeling  -- the pivots are columns named in turn, each where peeling stalls
