@@ -8,3 +8,6 @@ pub mod Codes  -- a code's rows and the rows of a start have the same solutions
 pub mod Final  -- what a search has come to at its end, and its solutions
 pub mod Tells  -- the answer tells exactly how many codewords agree
 pub mod Peeling  -- the pivots are columns named in turn, each where peeling stalls
+pub mod Shape  -- symbols steer nothing
+pub mod Listings  -- lists of different elements
+pub mod Doubling  -- of symbols with two values, the codewords that agree double with each free pivot
