@@ -11,3 +11,5 @@ pub mod Peeling  -- the pivots are columns named in turn, each where peeling sta
 pub mod Shape  -- symbols steer nothing
 pub mod Listings  -- lists of different elements
 pub mod Doubling  -- of symbols with two values, the codewords that agree double with each free pivot
+pub mod Shortfall  -- the shortfall goes by the missing places alone, and no answer by the policy
+pub mod Tops  -- the heaviest active column, and that what the policies name is active
