@@ -2,8 +2,8 @@
 use mathlib.Core.Path.{_≡_, refl, sym, ap, _∙_, subst}
 use mathlib.Core.Bool.{Bool, true, false, _||_, cond}
 use mathlib.Core.List.{List, [], _∷_, _++_, map}
-use mathlib.Core.Logic.{_≢_, _⊎_, inl, inr, _↔_}
-use Prim.Native.Nat.{ℕ, _^_, _≤_}
+use mathlib.Core.Logic.{_≢_, _⊎_, inl, inr}
+use Prim.Native.Nat.{ℕ, _^_}
 use native.Mathlib.Nat.{two-pow-succ}
 use native.Mathlib.Omega.{arith}
 use lib.ListN.{length, length-append, length-map}
@@ -12,15 +12,15 @@ use Rattle.std.specs.declared.option.Option.{Option}
 use Rattle.std.specs.declared.option.Option.the-variants.{Some, None}
 use Rattle.std.specs.shelf.Lists.{All, Has}
 use Rattle.std.proofs.shelf.Elements.{all-append, all-map, all-weaker, all-has, has-append-left, has-append-right}
-use Rattle.std.proofs.shelf.Tests.{true≢false, or-parts, or-right, or-cases, cases-bool, eqb-true, eq-eqb, ne-eqb}
+use Rattle.std.proofs.shelf.Tests.{true≢false, or-parts, or-right, or-cases, eqb-true, eq-eqb, ne-eqb}
 use Rattle.symbols.specs.Kinds.{Kind, Laws}
-use Rattle.codes.specs.Matrix.{Matrix, Lawful, member, Apart}
+use Rattle.codes.specs.Matrix.{Matrix, member, Apart}
 use Rattle.method.specs.Sets.{lowest}
 use Rattle.method.specs.Method.{State, final, clash, filled, answer-at, answer, method}
-use Rattle.method.specs.Fillings.{Agreeing, says-none, Pairwise, Different, Listing}
+use Rattle.method.specs.Fillings.{Agreeing, says-none, Pairwise, Listing}
 use Rattle.method.specs.Theorems.{Two-valued, Doubles}
 use Rattle.method.proofs.Sums.{at}
-use Rattle.method.proofs.Counts.{occ, occ-some, member-some, member-none, used-count}
+use Rattle.method.proofs.Counts.{occ-some, member-some, member-none}
 use Rattle.method.proofs.Final.{shares-le, ended-settled, Clean, Off-used}
 use Rattle.method.proofs.Tells.{Search, final-search, filling, filling-agrees, filling-only, filling-free, no-clash}
 use Rattle.method.proofs.Listings.{pairwise-append, pairwise-map, pairwise-weaker, has-map}

@@ -12,7 +12,7 @@ use Rattle.std.specs.declared.option.Option.{Option}
 use Rattle.std.specs.declared.option.Option.the-variants.{Some, None}
 use Rattle.std.specs.shelf.Lists.{All}
 use Rattle.std.proofs.shelf.Lists.{getD-past}
-use Rattle.std.proofs.shelf.Tests.{true≢false, false≢true, both-ways, not-true, cases-eq, cases-lt, and-parts, and-right, or-right, eqb-true, eq-eqb, ne-eqb}
+use Rattle.std.proofs.shelf.Tests.{false≢true, both-ways, not-true, cases-eq, cases-lt, and-right, eqb-true, ne-eqb}
 use Rattle.codes.specs.Matrix.{member, Apart}
 use Rattle.codes.specs.Matrix.{Row as Lawful-row}
 use Rattle.method.specs.Sets.{has, differs, sym-diff, meet, lowest, here-or, table, marks, kept-if, marked}

@@ -14,11 +14,11 @@ use Rattle.std.proofs.shelf.Lists.{append-nil, append-assoc}
 use Rattle.std.proofs.shelf.Tests.{true≢false, cases-bool, cases-eq, and-parts, and-from, not-true, eq-eqb, ne-eqb, eqb-false}
 use Rattle.symbols.specs.Kinds.{Kind, Laws}
 use Rattle.codes.specs.Matrix.{Matrix, row-at, member}
-use Rattle.method.specs.Sets.{has, meet, count, lowest, marks, marked}
-use Rattle.method.specs.Method.{Row, State, Choice, Outcome, missing, is-none, row-holds, unused, ready, only-column, holder, named, row-of, blank, use-row, start-row, start, clash, filled, step-at, step-if, step, steps, settle-at, settle, final, answer-at, answer, method}
+use Rattle.method.specs.Sets.{has, meet, count, lowest, marked}
+use Rattle.method.specs.Method.{Row, State, Choice, missing, is-none, row-holds, unused, ready, only-column, holder, named, row-of, blank, use-row, start-row, start, clash, filled, step-at, step-if, step, steps, settle-at, settle, final, answer-at, answer, method}
 use Rattle.method.specs.Choices.{Names, Naming}
 use Rattle.method.specs.Fillings.{No, pivots-of}
-use Rattle.method.specs.Stopping.{JustOne, NoneAlone, Among, Stopping, Left, NamedInTurn}
+use Rattle.method.specs.Stopping.{NoneAlone, Among, Stopping, NamedInTurn}
 use Rattle.method.specs.Theorems.{Named-in-turn, Pivots-tell}
 use Rattle.method.proofs.Marks.{none-some, has-below, has-meet, has-marks, member-marked, clear-is, lowest-none}
 use Rattle.method.proofs.Counts.{none-count, one-only}

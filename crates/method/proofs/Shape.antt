@@ -11,7 +11,7 @@ use Rattle.std.specs.declared.option.Option.the-variants.{Some, None}
 use Rattle.symbols.specs.Kinds.{Kind}
 use Rattle.codes.specs.Matrix.{Matrix}
 use Rattle.method.specs.Sets.{count, lowest, here-or}
-use Rattle.method.specs.Method.{Row, State, Choice, missing, row-holds, unused, ready, only-column, holder, named, row-of, blank, taken-for, added-if, use-row, others, spend, start-row, start-rows, start, step-at, step-if, step, steps, settle-at, settle, final}
+use Rattle.method.specs.Method.{Row, State, Choice, missing, row-holds, unused, ready, only-column, holder, named, row-of, blank, taken-for, added-if, use-row, others, spend, start-row, start, step-at, step-if, step, steps, settle-at, settle, final}
 
 -- the kind with one value
 abbrev pub nothing : Kind (Unit {0})

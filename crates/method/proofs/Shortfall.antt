@@ -11,17 +11,17 @@ use Rattle.std.specs.declared.option.Option.{Option}
 use Rattle.std.specs.declared.option.Option.the-variants.{Some, None}
 use Rattle.std.specs.shelf.Lists.{All}
 use Rattle.std.proofs.shelf.Tests.{true≢false, false≢true, not-true, not-from-false, cases-lt, cases-bool}
-use Rattle.symbols.specs.Kinds.{Kind, SumLaws, Laws}
+use Rattle.symbols.specs.Kinds.{Kind, Laws}
 use Rattle.codes.specs.Matrix.{Matrix, Lawful}
 use Rattle.method.specs.Sets.{differs, table, lowest}
 use Rattle.method.specs.Method.{State, Choice, one, several, clash, filled, final, answer-at, answer, method}
 use Rattle.method.specs.Choices.{Naming}
 use Rattle.method.specs.Fillings.{Agreeing, says-none, uncounted, Exactly, Listing}
 use Rattle.method.specs.Theorems.{Two-valued, Shortfall-by-places-alone, Policy-alters-no-answer}
-use Rattle.method.proofs.Marks.{differs-false, length-table}
-use Rattle.method.proofs.Sums.{at, sum-of}
+use Rattle.method.proofs.Marks.{length-table}
+use Rattle.method.proofs.Sums.{sum-of}
 use Rattle.method.proofs.Tells.{tells-exactly}
-use Rattle.method.proofs.Shape.{bare, shape}
+use Rattle.method.proofs.Shape.{shape}
 use Rattle.method.proofs.Listings.{listing-same}
 use Rattle.method.proofs.Doubling.{doubles}
 

@@ -5,7 +5,7 @@ use mathlib.Core.List.{List, [], _∷_}
 use mathlib.Core.Logic.{_≢_, _⊎_, inl, inr}
 use Prim.Native.Nat.{ℕ, _<_, _≤_}
 use native.Mathlib.Omega.{arith}
-use lib.ListN.{length, getD}
+use lib.ListN.{length}
 use lib.Seq.{ext-getD}
 use lib.Dec.{eqb}
 use Rattle.std.specs.declared.option.Option.{Option}
@@ -20,7 +20,7 @@ use Rattle.method.specs.Fillings.{Agreeing, No, Only, One, Two, says-none, say
 use Rattle.method.specs.Theorems.{Tells-exactly, Final-state}
 use Rattle.method.proofs.Marks.{has-below, missing-is, missing-from, getD-table, length-table, lowest-some, lowest-none}
 use Rattle.method.proofs.Sums.{sum-over, at, sum-zero, sum-none, sum-zeros}
-use Rattle.method.proofs.Counts.{num, occ, occ-self, used-count}
+use Rattle.method.proofs.Counts.{occ, occ-self, used-count}
 use Rattle.method.proofs.Rows.{Solves}
 use Rattle.method.proofs.Run.{is-none-is, Ended, final-fine}
 use Rattle.method.proofs.Codes.{code-solves, solves-code}

@@ -1,5 +1,5 @@
 -- The heaviest active column, and that what the policies name is active.
-use mathlib.Core.Path.{_≡_, refl, sym, ap, subst, _∙_}
+use mathlib.Core.Path.{_≡_, refl, ap, subst, _∙_}
 use mathlib.Core.Bool.{Bool, true, false, cond}
 use mathlib.Core.List.{List, [], _∷_}
 use mathlib.Core.Logic.{_⊎_, inl, inr, ⊎-elim}
@@ -14,7 +14,7 @@ use Rattle.std.proofs.shelf.Tests.{cases-lt, cases-eq, both-ways, ltb-true, ltb
 use Rattle.codes.specs.Matrix.{Matrix, height}
 use Rattle.method.specs.Sets.{has, lowest}
 use Rattle.method.specs.Method.{Choice}
-use Rattle.method.specs.Choices.{Names, Naming, first, better, top-to, top, column-weight, joins, label, labels, size-of, largest-of, largest, or-below, component, or-asked, replay-at, replay}
+use Rattle.method.specs.Choices.{Names, Naming, first, better, top-to, top, column-weight, joins, label, labels, size-of, largest-of, or-below, component, or-asked, replay-at, replay}
 use Rattle.method.specs.Theorems.{Policies-name}
 use Rattle.method.proofs.Marks.{lowest-some, lowest-none}
 
