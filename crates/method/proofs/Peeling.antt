@@ -31,6 +31,7 @@ module _ {S : Type 0} (K : Kind S) (k : Matrix) where
     pub like : (r c : ℕ) → has a c ≡ true → row-holds c (row-of K rows r) ≡ member c (row-at k r)
     pub apart : (r c d : ℕ) → has a c ≡ true → row-of K rows r .used ≡ Some d → row-holds c (row-of K rows r) ≡ false
 
+  -- fewer active columns
   peeled-less : (rows : List (Row S)) (a : List Bool) (c : ℕ) → Peeled rows a → Peeled rows (set a c false)
   peeled-less rows a c p = record {
     like = λ r d h. p .like r d (clear-is a c d h .0);
@@ -93,6 +94,7 @@ module _ {S : Type 0} (K : Kind S) (k : Matrix) where
           true≢false (sym (and-from (unused row) (eqb (count (meet (row .cols) a)) 1) (ap is-none u) (eq-eqb _ _ one))
           ∙ lowest-none (ready a) (blank K) refl rows e r)
 
+  -- at the start each row is the code's row on the missing columns
   start-like : (n : ℕ) (got : List Bool) (syms : List S) → length got ≡ n → (rows : List (List ℕ)) (r c : ℕ) → has (missing got) c ≡ true
       → row-holds c (row-of K (map (start-row K n got syms) rows) r) ≡ member c (getD rows r [])
   start-like n got syms wide [] r c h = refl
@@ -112,6 +114,7 @@ module _ {S : Type 0} (K : Kind S) (k : Matrix) where
     among : Among (has a) A
     most : (part : ℕ → Bool) → Among part A → NoneAlone k part → Among part (has a)
 
+  -- a row that is ready holds no part that could stall
   reach-ready : (A : ℕ → Bool) (rows : List (Row S)) (a : List Bool) (r : ℕ) → Peeled rows a → lowest (ready a) rows ≡ Some r → Reach A a
       → Reach A (set a (only-column a (row-of K rows r)) false)
   reach-ready A rows a r p e h = record { among = λ d i. h .among d (clear-is a c d i .0); most = most′ }
@@ -204,6 +207,7 @@ answer-pivots None p a [] w = refl
 answer-pivots None p a (f ∷ fs) w = refl
 
 module _ {S : Type 0} (K : Kind S) {P : Type 0} where
+  -- settling names no pivot, and an answer counts them all
   pub settle-pivots : (cs : List ℕ) (s : State S P) → settle K cs s .pivots ≡ s .pivots
   unfolding settle
   settle-pivots [] s = refl

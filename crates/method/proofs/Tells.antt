@@ -56,6 +56,7 @@ module _ {S P : Type 0} {K : Kind S} (L : Laws K) {k : Matrix} {got : List Bool}
   pub filling-free : (y : ℕ → S) (c : ℕ) → 1 ≤ occ c (s .free) → at K (filling K k got syms (s .rows) y) c ≡ y c
   filling-free y c o = let f = free-is (d .ended) c o in filling-missing y c (f .0) ∙ value-free L (d .ended) y c (f .1)
 
+  -- a codeword that agrees meets every row of the end
   meets : (w : List S) → Agreeing K k got syms w → Solves K (s .rows) (at K w)
   meets w g = d .ended .kept .onward (at K w) (code-solves L (k .width) got (d .wide) syms w (g .agrees) (k .rows) (d .lawful .each) (g .codeword .sums))
 
@@ -104,6 +105,7 @@ module _ {S P : Type 0} {K : Kind S} (L : Laws K) {k : Matrix} {got : List Bool}
       let h′ : not (K .isZero (row-of K (s .rows) r .right)) ≡ false = rw u at h in
       L .tells-zero (row-of K (s .rows) r .right) .0 (not-false (K .isZero (row-of K (s .rows) r .right)) h′)
 
+  -- a right side is the solution with zero at the free pivots
   right-value : (c : ℕ) → row-for K c (s .rows) .right ≡ value K (s .rows) (λ _. K .zero) c
   right-value c =
       let q : Row S = row-for K c (s .rows) in
