@@ -31,8 +31,8 @@ abbrev pub filling : {S : Type 0} → Kind S → Matrix → List Bool → List S
 filling K k got syms rows y = table (k .width) (λ c. cond (has got c) (at K syms c) (value K rows y c))
 
 -- the symbol x at f, and zero elsewhere
-abbrev pub spike : {S : Type 0} → Kind S → S → ℕ → ℕ → S
-spike K x f c = cond (eqb c f) x (K .zero)
+abbrev pub single : {S : Type 0} → Kind S → S → ℕ → ℕ → S
+single K x f c = cond (eqb c f) x (K .zero)
 
 -- a search of a lawful code that has ended in the state s
 pub record Search {S P : Type 0} (K : Kind S) (k : Matrix) (got : List Bool) (syms : List S) (s : State S P) : Type 0 where
@@ -87,8 +87,8 @@ module _ {S P : Type 0} {K : Kind S} (L : Laws K) {k : Matrix} {got : List Bool}
           let mc = missing-from got c (omega (arith, g .codeword .wide, d .wide)) h in
           value-only L (d .ended) (at K w) (meets w g) y off same c mc ∙ sym (filling-missing y c mc)
 
-  pub spike-off : (x : S) (f : ℕ) → 1 ≤ occ f (s .free) → Off-used K (s .rows) (spike K x f)
-  spike-off x f o c u =
+  pub single-off : (x : S) (f : ℕ) → 1 ≤ occ f (s .free) → Off-used K (s .rows) (single K x f)
+  single-off x f o c u =
       ap (λ b. cond b x (K .zero)) (ne-eqb c f (λ z. omega (arith, free-is (d .ended) f o .1, ap (λ d. used-count d (s .rows)) z)))
 
   -- a row clashes exactly where no codeword agrees
@@ -125,13 +125,13 @@ module _ {S P : Type 0} {K : Kind S} (L : Laws K) {k : Matrix} {got : List Bool}
   tells-several clean f o = (of (K .zero), of (K .unit), fits (K .zero), fits (K .unit), λ z. L .distinct (sym (at-f (K .unit)) ∙ ap (λ w. at K w f) (sym z) ∙ at-f (K .zero)))
     where
       of : S → List S
-      of x = filling K k got syms (s .rows) (spike K x f)
+      of x = filling K k got syms (s .rows) (single K x f)
 
       fits : (x : S) → Agreeing K k got syms (of x)
-      fits x = filling-agrees clean (spike K x f) (spike-off x f o)
+      fits x = filling-agrees clean (single K x f) (single-off x f o)
 
       at-f : (x : S) → at K (of x) f ≡ x
-      at-f x = filling-free (spike K x f) f o ∙ ap (λ b. cond b x (K .zero)) (eq-eqb f f refl)
+      at-f x = filling-free (single K x f) f o ∙ ap (λ b. cond b x (K .zero)) (eq-eqb f f refl)
 
 -- what each answer says
 abbrev Tells : {S : Type 0} → (List S → Type 0) → Outcome S → Type 0
