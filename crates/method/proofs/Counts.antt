@@ -2,7 +2,7 @@
 use mathlib.Core.Path.{_≡_, refl, sym, ap, ap₂, _∙_}
 use mathlib.Core.Bool.{Bool, true, false, _||_, cond}
 use mathlib.Core.List.{List, [], _∷_, _++_, map}
-use mathlib.Core.Logic.{_⊎_, inl, inr}
+use mathlib.Core.Logic.{inl, inr}
 use Prim.Native.Nat.{ℕ, zero, suc, _+_, _<_, _≤_}
 use native.Mathlib.Omega.{arith}
 use lib.ListN.{length, set}
@@ -14,7 +14,7 @@ use Rattle.std.proofs.shelf.Tests.{true≢false, false≢true, cases-bool, case
 use Rattle.symbols.specs.Kinds.{Kind}
 use Rattle.codes.specs.Matrix.{member, Apart}
 use Rattle.method.specs.Sets.{has, count, lowest, or-else}
-use Rattle.method.specs.Method.{Row, names, row-of, blank, row-for}
+use Rattle.method.specs.Method.{Row, used-for, row-of, blank, row-for}
 use Rattle.method.proofs.Marks.{none-some, clear-is, lowest-some, lowest-none}
 
 -- a test as a number, so that a count is a sum
@@ -30,6 +30,7 @@ has-clear (b ∷ s) zero (suc d) h = simp (eqb·zero-suc) (omega arith)
 has-clear (b ∷ s) (suc c) zero h = simp (eqb·suc-zero) (omega arith)
 has-clear (b ∷ s) (suc c) (suc d) h = simp (eqb·suc-suc) (has-clear s c d h)
 
+-- one fewer is counted
 pub count-clear : (s : List Bool) (c : ℕ) → has s c ≡ true → suc (count (set s c false)) ≡ count s
 count-clear [] c h = absurd (false≢true h)
 count-clear (true ∷ s) zero h = refl
@@ -49,6 +50,7 @@ none-count [] h = refl
 none-count (true ∷ s) h = absurd (true≢false (h 0))
 none-count (false ∷ s) h = none-count s (λ c. h (suc c))
 
+-- no more are counted than the list is long
 pub count-le : (s : List Bool) → count s ≤ length s
 count-le [] = omega arith
 count-le (true ∷ s) = omega (arith, count-le s)
@@ -82,10 +84,12 @@ abbrev pub occ : ℕ → List ℕ → ℕ
 occ c [] = 0
 occ c (x ∷ xs) = num (eqb x c) + occ c xs
 
+-- one more listed
 pub occ-push : (c : ℕ) (xs : List ℕ) (x : ℕ) → occ c (xs ++ x ∷ []) ≡ occ c xs + num (eqb x c)
 occ-push c [] x = omega arith
 occ-push c (y ∷ xs) x = omega (arith, occ-push c xs x)
 
+-- a number is listed at least once exactly where it is a member
 pub occ-none : (c : ℕ) (xs : List ℕ) → member c xs ≡ false → occ c xs ≡ 0
 occ-none c [] e = refl
 occ-none c (x ∷ xs) e = go (eqb x c) (occ-none c xs) e
@@ -116,22 +120,25 @@ pub occ-apart : (xs : List ℕ) → ((c : ℕ) → occ c xs ≤ 1) → Apart xs
 occ-apart [] h = tt
 occ-apart (x ∷ xs) h = (member-none x xs (omega (arith, h x, occ-self x xs)), occ-apart xs (λ c. omega (arith, h c)))
 
-pub names-is : (c : ℕ) (u : Option ℕ) → names c u ≡ true → u ≡ Some c
-names-is c None e = absurd (false≢true e)
-names-is c (Some d) e = ap Some (eqb-true d c e)
+-- a row's use, if any, is for c
+pub used-for-is : (c : ℕ) (u : Option ℕ) → used-for c u ≡ true → u ≡ Some c
+used-for-is c None e = absurd (false≢true e)
+used-for-is c (Some d) e = ap Some (eqb-true d c e)
 
-pub is-names : (c : ℕ) (u : Option ℕ) → u ≡ Some c → names c u ≡ true
-is-names c None e = absurd (none-some e)
-is-names c (Some d) e = let z : d ≡ c = cc in eq-eqb d c z
+pub is-used-for : (c : ℕ) (u : Option ℕ) → u ≡ Some c → used-for c u ≡ true
+is-used-for c None e = absurd (none-some e)
+is-used-for c (Some d) e = let z : d ≡ c = cc in eq-eqb d c z
 
 -- how many rows are used for c
 abbrev pub used-count : {S : Type 0} → ℕ → List (Row S) → ℕ
 used-count c [] = 0
-used-count c (q ∷ qs) = num (names c (q .used)) + used-count c qs
+used-count c (q ∷ qs) = num (used-for c (q .used)) + used-count c qs
 
-pub used-map : {S : Type 0} (f : Row S → Row S) → ((q : Row S) → f q .used ≡ q .used) → (c : ℕ) (rows : List (Row S)) → used-count c (map f rows) ≡ used-count c rows
+-- what keeps the uses keeps their number
+pub used-map : {S : Type 0} (f : Row S → Row S) → ((q : Row S) → f q .used ≡ q .used) → (c : ℕ) (rows : List (Row S))
+    → used-count c (map f rows) ≡ used-count c rows
 used-map f h c [] = refl
-used-map f h c (q ∷ qs) = ap₂ (λ u n. num (names c u) + n) (h q) (used-map f h c qs)
+used-map f h c (q ∷ qs) = ap₂ (λ u n. num (used-for c u) + n) (h q) (used-map f h c qs)
 
 module _ {S : Type 0} (K : Kind S) where
   -- an unused row becomes used for d
@@ -141,43 +148,45 @@ module _ {S : Type 0} (K : Kind S) where
   used-set (p ∷ rows) zero c d q l e e′ = rw (e, e′) (omega arith)
   used-set (p ∷ rows) (suc r) c d q l e e′ = omega (arith, used-set rows r c d q (omega arith) e e′)
 
+  -- a column counted is some row's own, and a row's own column is counted
   pub used-somewhere : (rows : List (Row S)) (c : ℕ) → 1 ≤ used-count c rows → (r : ℕ) × (row-of K rows r .used ≡ Some c)
   used-somewhere [] c h = absurd (omega arith)
-  used-somewhere (q ∷ rows) c h = go (names c (q .used)) refl (used-somewhere rows c)
+  used-somewhere (q ∷ rows) c h = go (used-for c (q .used)) refl (used-somewhere rows c)
     where
-      go : (b : Bool) → names c (q .used) ≡ b → (1 ≤ used-count c rows → (r : ℕ) × (row-of K rows r .used ≡ Some c))
+      go : (b : Bool) → used-for c (q .used) ≡ b → (1 ≤ used-count c rows → (r : ℕ) × (row-of K rows r .used ≡ Some c))
           → (r : ℕ) × (row-of K (q ∷ rows) r .used ≡ Some c)
-      go true e ih = (0, names-is c (q .used) e)
+      go true e ih = (0, used-for-is c (q .used) e)
       go false e ih = let t = ih (omega (arith, ap num e)) in (suc (t .0), t .1)
 
   pub used-counts : (rows : List (Row S)) (c r : ℕ) → row-of K rows r .used ≡ Some c → 1 ≤ used-count c rows
   used-counts [] c r e = absurd (none-some e)
-  used-counts (q ∷ rows) c zero e = omega (arith, ap num (is-names c (q .used) e))
+  used-counts (q ∷ rows) c zero e = omega (arith, ap num (is-used-for c (q .used) e))
   used-counts (q ∷ rows) c (suc r) e = omega (arith, used-counts rows c r e)
 
   -- at most one row is used for c: it is one and the same
   pub used-once : (rows : List (Row S)) (c r i : ℕ) → used-count c rows ≤ 1 → row-of K rows r .used ≡ Some c → row-of K rows i .used ≡ Some c → i ≡ r
   used-once [] c r i h e e′ = absurd (none-some e)
   used-once (q ∷ rows) c zero zero h e e′ = refl
-  used-once (q ∷ rows) c zero (suc i) h e e′ = absurd (omega (arith, ap num (is-names c (q .used) e), used-counts rows c i e′))
-  used-once (q ∷ rows) c (suc r) zero h e e′ = absurd (omega (arith, ap num (is-names c (q .used) e′), used-counts rows c r e))
+  used-once (q ∷ rows) c zero (suc i) h e e′ = absurd (omega (arith, ap num (is-used-for c (q .used) e), used-counts rows c i e′))
+  used-once (q ∷ rows) c (suc r) zero h e e′ = absurd (omega (arith, ap num (is-used-for c (q .used) e′), used-counts rows c r e))
   used-once (q ∷ rows) c (suc r) (suc i) h e e′ = ap suc (used-once rows c r i (omega arith) e e′)
 
+  -- the row used for c, where there is just one, and where there is none
   pub row-for-is : (rows : List (Row S)) (c r : ℕ) → row-of K rows r .used ≡ Some c → used-count c rows ≤ 1 → row-for K c rows ≡ row-of K rows r
   row-for-is [] c r e h = refl
-  row-for-is (q ∷ rows) c zero e h = rw (is-names c (q .used) e) refl
-  row-for-is (q ∷ rows) c (suc r) e h = go (names c (q .used)) refl (row-for-is rows c r e)
+  row-for-is (q ∷ rows) c zero e h = rw (is-used-for c (q .used) e) refl
+  row-for-is (q ∷ rows) c (suc r) e h = go (used-for c (q .used)) refl (row-for-is rows c r e)
     where
-      go : (b : Bool) → names c (q .used) ≡ b → (used-count c rows ≤ 1 → row-for K c rows ≡ row-of K rows r)
+      go : (b : Bool) → used-for c (q .used) ≡ b → (used-count c rows ≤ 1 → row-for K c rows ≡ row-of K rows r)
           → cond b q (row-for K c rows) ≡ row-of K rows r
       go true b ih = absurd (omega (arith, ap num b, used-counts rows c r e))
       go false b ih = ih (omega (arith, ap num b))
 
   pub row-for-none : (rows : List (Row S)) (c : ℕ) → used-count c rows ≡ 0 → row-for K c rows ≡ blank K
   row-for-none [] c h = refl
-  row-for-none (q ∷ rows) c h = go (names c (q .used)) refl (row-for-none rows c)
+  row-for-none (q ∷ rows) c h = go (used-for c (q .used)) refl (row-for-none rows c)
     where
-      go : (b : Bool) → names c (q .used) ≡ b → (used-count c rows ≡ 0 → row-for K c rows ≡ blank K)
+      go : (b : Bool) → used-for c (q .used) ≡ b → (used-count c rows ≡ 0 → row-for K c rows ≡ blank K)
           → cond b q (row-for K c rows) ≡ blank K
       go true b ih = absurd (omega (arith, ap num b))
       go false b ih = ih (omega (arith, ap num b))

@@ -12,7 +12,7 @@ use Rattle.std.specs.declared.option.Option.{Option}
 use Rattle.std.specs.declared.option.Option.the-variants.{Some, None}
 use Rattle.std.specs.shelf.Lists.{All}
 use Rattle.std.proofs.shelf.Lists.{getD-past}
-use Rattle.std.proofs.shelf.Tests.{true≢false, false≢true, both-ways, not-true, cases-eq, cases-lt, and-parts, and-right, or-right, eqb-true, eq-eqb, ne-eqb}
+use Rattle.std.proofs.shelf.Tests.{false≢true, both-ways, not-true, cases-eq, cases-lt, and-right, eqb-true, ne-eqb}
 use Rattle.codes.specs.Matrix.{member, Apart}
 use Rattle.codes.specs.Matrix.{Row as Lawful-row}
 use Rattle.method.specs.Sets.{has, differs, sym-diff, meet, lowest, here-or, table, marks, kept-if, marked}
@@ -30,6 +30,7 @@ pub differs-false : (b : Bool) → differs b false ≡ b
 differs-false true = refl
 differs-false false = refl
 
+-- what is in a symmetric difference, and in both of two sets
 pub has-sym-diff : (s t : List Bool) (c : ℕ) → has (sym-diff s t) c ≡ differs (has s c) (has t c)
 has-sym-diff [] t c = refl
 has-sym-diff (a ∷ s) [] c = sym (differs-false (has (a ∷ s) c))
@@ -71,6 +72,7 @@ missing-is (b ∷ got) (suc c) e = let t = missing-is got c e in (t .0, omega (a
 pub missing-from : (got : List Bool) (c : ℕ) → c < length got → has got c ≡ false → has (missing got) c ≡ true
 missing-from got c h e = has-missing got c h ∙ ap not e
 
+-- a table's places, and the marks of listed numbers
 pub getD-table : {A : Type 0} (n : ℕ) (f : ℕ → A) (c : ℕ) (d : A) → c < n → getD (table n f) c d ≡ f c
 getD-table zero f c d h = absurd (omega arith)
 getD-table (suc n) f zero d h = refl

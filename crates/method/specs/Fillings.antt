@@ -5,7 +5,7 @@
 --   Exactly       an answer that is none, one or several exactly when no, just one, at least two fillings have it;
 --                 and where it is one, the filling given is that one
 --   uncounted     an answer without the counts of its work
---   Different     no two elements of a list are equal
+--   Different     no two elements of a list are equal: Pairwise so
 --   Listing       so many have it: the elements of a list of that length, no two of them equal
 use mathlib.Core.Path.{_≡_}
 use mathlib.Core.Logic.{_≢_, _↔_}
@@ -67,9 +67,12 @@ uncounted (none p a) = none 0 0
 uncounted (one p a w) = one 0 0 w
 uncounted (several p a f) = several 0 0 f
 
+abbrev pub Pairwise : {A : Type 0} → (A → A → Type 0) → List A → Type 0
+Pairwise R [] = Unit {0}
+Pairwise R (x ∷ xs) = All (R x) xs × Pairwise R xs
+
 abbrev pub Different : {A : Type 0} → List A → Type 0
-Different [] = Unit {0}
-Different (x ∷ xs) = All (λ y. x ≢ y) xs × Different xs
+Different xs = Pairwise (λ x y. x ≢ y) xs
 
 pub record Listing {A : Type 0} (Q : A → Type 0) (n : ℕ) : Type 0 where
   pub list : List A

@@ -48,13 +48,14 @@ pub data Outcome (S : Type 0) : Type 0 where
 abbrev pub missing : List Bool → List Bool
 missing got = map not got
 
+-- a row's use: none, or for c
 abbrev pub is-none : Option ℕ → Bool
 is-none None = true
 is-none (Some c) = false
 
-abbrev pub names : ℕ → Option ℕ → Bool
-names c None = false
-names c (Some d) = eqb d c
+abbrev pub used-for : ℕ → Option ℕ → Bool
+used-for c None = false
+used-for c (Some d) = eqb d c
 
 abbrev pub row-holds : {S : Type 0} → ℕ → Row S → Bool
 row-holds c q = has (q .cols) c
@@ -95,6 +96,7 @@ named (Some c) p s = record {
   policy = p;
 }
 
+-- a pivot that no unused row holds
 abbrev pub freed : {S P : Type 0} → ℕ → State S P → State S P
 freed c s = record {
   rows = s .rows;
@@ -105,6 +107,7 @@ freed c s = record {
   policy = s .policy;
 }
 
+-- the answer by the free pivots, and before that by the lowest row that clashes, if any
 abbrev pub answer-free : {S : Type 0} → ℕ → ℕ → List ℕ → List S → Outcome S
 answer-free p a [] w = one p a w
 answer-free p a (f ∷ fs) w = several p a (length (f ∷ fs))
@@ -142,7 +145,7 @@ module _ {S : Type 0} (K : Kind S) where
   -- the row used for c, blank where there is none
   abbrev pub row-for : ℕ → List (Row S) → Row S
   row-for c [] = blank
-  row-for c (q ∷ qs) = cond (names c (q .used)) q (row-for c qs)
+  row-for c (q ∷ qs) = cond (used-for c (q .used)) q (row-for c qs)
 
   -- the received symbols, and at each missing place the right side of the row used for it
   abbrev pub filled : ℕ → List Bool → List S → List (Row S) → List S
