@@ -11,6 +11,7 @@ use mathlib.Core.List.{List, [], _∷_, _++_}
 use Prim.Native.Nat.{ℕ}
 use lib.Dec.{eqb}
 use lib.ListN.{length, getD, set, take, drop, replicate}
+use Rattle.std.specs.shelf.Lists.{countBy}
 use Rattle.std.specs.declared.option.Option.{Option}
 use Rattle.std.specs.declared.option.Option.the-variants.{Some, None}
 use Rattle.symbols.specs.Kinds.{Kind}
@@ -35,6 +36,10 @@ pub record Block (S : Type 0) : Type 0 where
 
 abbrev pub seen : {S : Type 0} → Block S → View
 seen m = record { number = m .number; stamp = m .stamp; places = m .n; out = m .out; has = λ p. getD (m .received) p false }
+
+-- how many of its places were received
+abbrev pub received-count : {S : Type 0} → Block S → ℕ
+received-count m = countBy (λ b. b) (take (m .n) (m .received))
 
 -- what a block tells of the refusal of its open
 abbrev pub told-refusal : {S : Type 0} → Block S → Option (ℕ × ℕ)

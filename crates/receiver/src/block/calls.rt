@@ -10,7 +10,8 @@ ghost use Rattle.std.specs.Results.{isOk, Cases};
 ghost use Rattle.std.specs.declared.option.Option.the-variants.{Some, None};
 ghost use Rattle.receiver.specs.Calls.{open-refusal};
 ghost use Rattle.receiver.specs.History.{Opened};
-ghost use Rattle.receiver.specs.Blocks.{opened, told-refusal};
+ghost use Rattle.packets.specs.Figure.{percent};
+ghost use Rattle.receiver.specs.Blocks.{opened, told-refusal, received-count};
 ghost use Rattle.receiver.specs.Steps.{Step, receive-event, show-event, close-event, renew-event};
 ghost use Rattle.receiver.specs.Stands.{Stands, GoesOn, opening};
 ghost use Rattle.receiver.specs.View.{model};
@@ -77,5 +78,12 @@ impl<'a, S: Symbol> Block<'a, S> {
         ensures history { λ r. ⌜ GoesOn (S·Symbol .kind) (model (now (self .entry))) (renew-event stamp r ∷ []) (model (now (self .exit))) ⌝ }
     {
         self.restart(stamp)
+    }
+
+    // How much of the block was received, in whole percent.
+    pub fn figure(&self) -> u64
+        ensures { λ r. ⌜ r ≡ percent (received-count (model (now (self .entry)))) (now (self .entry) .marks .n) ⌝ }
+    {
+        packets::reception_figure(self.count_received(), self.marks.n as u32)
     }
 }

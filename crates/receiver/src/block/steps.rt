@@ -8,7 +8,7 @@ ghost use denote.Ref.{name};
 ghost use Rattle.std.specs.Results.{isOk, Cases};
 ghost use Rattle.symbols.specs.Kinds.{Kind};
 ghost use Rattle.receiver.specs.Calls.{is-out, owns as own, open-refusal};
-ghost use Rattle.receiver.specs.Blocks.{Block as Values, seen, zero-missing, renewed-block, opened};
+ghost use Rattle.receiver.specs.Blocks.{Block as Values, seen, zero-missing, renewed-block, opened, received-count};
 ghost use Rattle.receiver.specs.Steps.{Step, receive-event, show-event, close-event, renew-event};
 ghost use Rattle.receiver.specs.View.{model, Blank};
 use crate::block::Block;
@@ -78,6 +78,19 @@ impl<'a, S: Symbol> Block<'a, S> {
         let table = &*self.table;
         *into = table[p];
         Ok(())
+    }
+
+    // How many places were received.
+    pub(crate) fn count_received(&self) -> u32
+        ensures { λ r. ⌜ r ≡ received-count (model (now (self .entry))) ⌝ }
+    {
+        let mut count = 0;
+        for i in 0..self.marks.n {
+            if self.marks.received[i] {
+                count += 1;
+            }
+        }
+        count
     }
 
     // Makes each missing place zero.
