@@ -1,0 +1,5 @@
+pub mod Faults
+pub mod Figure
+pub mod Laws
+pub mod Packets
+pub mod Refusals

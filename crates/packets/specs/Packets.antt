@@ -1,0 +1,55 @@
+-- A packet of 68 bytes: four header bytes, highest first, with 12 bits of block number and 20 bits of packet number
+-- (the FEC Payload ID of RFC 5170), then a cell of 64 bytes.
+--
+--   word-of                 the 32-bit number that the first four bytes write
+--   block-of, number-of     its upper 12 bits and its lower 20 bits
+--   cell-of                 what follows the header
+--   header, packet          the bytes of a block number and a packet number, and those with a cell behind
+--   wrong-length, wrong-block, wrong-number     the causes of refusal
+--   read-header, read-cell, write-packet        what the calls answer
+use mathlib.Core.Bool.{not}
+use mathlib.Core.List.{List, [], _∷_, _++_}
+use Prim.Native.Nat.{ℕ, _+_, _*_, _/_, _%_, _^_}
+use lib.Dec.{eqb, leb}
+use lib.ListN.{length, getD, drop}
+use Rattle.std.specs.declared.result.Result.{Result}
+use Rattle.packets.specs.Refusals.{Refusal, refusal, Cause, unless}
+
+abbrev pub word-of : List ℕ → ℕ
+word-of bytes = getD bytes 0 0 * 2 ^ 24 + getD bytes 1 0 * 2 ^ 16 + getD bytes 2 0 * 2 ^ 8 + getD bytes 3 0
+
+abbrev pub block-of : List ℕ → ℕ
+block-of bytes = word-of bytes / 2 ^ 20
+
+abbrev pub number-of : List ℕ → ℕ
+number-of bytes = word-of bytes % 2 ^ 20
+
+abbrev pub cell-of : List ℕ → List ℕ
+cell-of bytes = drop 4 bytes
+
+abbrev pub word-bytes : ℕ → List ℕ
+word-bytes w = (w / 2 ^ 24 % 256) ∷ (w / 2 ^ 16 % 256) ∷ (w / 2 ^ 8 % 256) ∷ (w % 256) ∷ []
+
+abbrev pub header : ℕ → ℕ → List ℕ
+header block number = word-bytes (block * 2 ^ 20 + number)
+
+abbrev pub packet : ℕ → ℕ → List ℕ → List ℕ
+packet block number cell = header block number ++ cell
+
+abbrev pub wrong-length : List ℕ → Cause
+wrong-length bytes = record { holds = not (eqb (length bytes) 68); refuses = refusal 1 (length bytes ∷ []) }
+
+abbrev pub wrong-block : ℕ → Cause
+wrong-block block = record { holds = leb 4096 block; refuses = refusal 2 (block ∷ []) }
+
+abbrev pub wrong-number : ℕ → Cause
+wrong-number number = record { holds = leb 1048576 number; refuses = refusal 9 (number ∷ []) }
+
+abbrev pub read-header : List ℕ → Result (ℕ × ℕ) Refusal
+read-header bytes = unless (wrong-length bytes ∷ []) (block-of bytes, number-of bytes)
+
+abbrev pub read-cell : List ℕ → Result (List ℕ) Refusal
+read-cell bytes = unless (wrong-length bytes ∷ []) (cell-of bytes)
+
+abbrev pub write-packet : List ℕ → ℕ → ℕ → Result (Unit {0}) Refusal
+write-packet bytes block number = unless (wrong-length bytes ∷ wrong-block block ∷ wrong-number number ∷ []) tt
