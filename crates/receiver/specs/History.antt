@@ -30,7 +30,7 @@ use Rattle.method.specs.Stopping.{Stopping, NamedInTurn}
 use Rattle.receiver.specs.declared.block.Out.{Out}
 use Rattle.receiver.specs.declared.block.Out.the-variants.{Nothing, Full}
 use Rattle.receiver.specs.declared.fault.Fault.{Fault}
-use Rattle.receiver.specs.declared.fault.Report.{Report}
+use Rattle.search.specs.declared.answer.Report.{Report}
 use Rattle.receiver.specs.declared.permit.Permit.{Permit}
 use Rattle.receiver.specs.Calls.{Search, Call, View, refusal}
 use Rattle.receiver.specs.Calls.Call.{receive, solve, show, close, renew}

@@ -19,9 +19,11 @@ use Rattle.symbols.specs.Kinds.{Kind}
 use Rattle.codes.specs.Matrix.{Matrix, height}
 use Rattle.method.specs.Method.{Choice, Outcome, method, final}
 use Rattle.method.specs.Method.Outcome.{none, one, several}
+use Rattle.search.specs.Answers.{report-of}
+use Rattle.search.specs.Found.{wiped}
 use Rattle.receiver.specs.declared.block.Out.the-variants.{Full}
 use Rattle.receiver.specs.declared.fault.Fault.{Fault}
-use Rattle.receiver.specs.declared.fault.Report.{Report}
+use Rattle.search.specs.declared.answer.Report.{Report}
 use Rattle.receiver.specs.declared.fault.Unsolved.{Unsolved}
 use Rattle.receiver.specs.declared.fault.Unsolved.the-variants.{Refused, NoCodeword, Several}
 use Rattle.receiver.specs.declared.permit.Permit.{Permit}
@@ -35,9 +37,6 @@ use Rattle.receiver.specs.Blocks.{Block, seen, with-table}
 -- what a solve is handed, as its refusals see it
 abbrev pub search-of : Matrix → (words symbols : ℕ) → Search
 search-of k ws ss = record { code = k; words = ws; symbols = ss }
-
-abbrev pub report-of : (pivots additions : ℕ) → Report
-report-of p a = record { pivots = p; additions = a }
 
 abbrev pub found-of : {S : Type 0} → Block S → Outcome S → Found
 found-of m (none p a) = no-codeword (report-of p a)
@@ -80,8 +79,8 @@ module _ {S P : Type 0} (K : Kind S) (choice : Matrix → Choice P) (k : Matrix)
     answer = answer-of (found-of m outcome);
     block = after-search m outcome;
     policy = final K (choice k) k (take (m .n) (m .received)) (take (m .n) (m .table)) p .policy;
-    words = replicate (8 * height k) 0 ++ drop (8 * height k) ws;
-    sides = replicate (height k) (K .zero) ++ drop (height k) ss;
+    words = wiped 0 (8 * height k) ws;
+    sides = wiped (K .zero) (height k) ss;
   }
 
   abbrev pub solved : List ℕ → List S → Done S P

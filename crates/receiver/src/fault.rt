@@ -1,6 +1,7 @@
 // Why a call on a block is refused, and what a search reports.
 ghost use mathlib.Core.Path.{_≡_};
 ghost use Rattle.receiver.specs.Refusals.{meaning, value-of};
+use search::Report;
 
 // A refresh time in seconds, from the host. 0 is no stamp.
 pub type Stamp = u32;
@@ -19,13 +20,6 @@ pub enum Fault {
     NotLater(Stamp),
     ShortMemory(usize),
     NotItsPermit(Stamp),
-}
-
-// What a search counted.
-#[derive(Clone, Copy)]
-pub struct Report {
-    pub pivots: u32,
-    pub additions: u32,
 }
 
 // Why a solve gave no permit: it was refused before its search, or its search found no codeword or several.

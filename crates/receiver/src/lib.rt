@@ -8,7 +8,6 @@ pub use block::Block;
 pub use block::Marks;
 pub use block::Out;
 pub use fault::Fault;
-pub use fault::Report;
 pub use fault::Stamp;
 pub use fault::Unsolved;
 pub use permit::Permit;

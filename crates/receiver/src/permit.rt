@@ -1,7 +1,7 @@
 // The permit that a granted solve gives: plain numbers that can be read and never set.
 ghost use mathlib.Core.Path.{_≡_};
-use crate::fault::Report;
 use crate::fault::Stamp;
+use search::Report;
 
 pub struct Permit {
     number: u32,
