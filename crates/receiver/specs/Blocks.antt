@@ -4,11 +4,11 @@
 --   seen          what decides a refusal, by the block's values
 --   filled, closed-block, renewed-block, fresh-block    the block after a granted call
 --   Step          what each call does: its answer, by the first cause that refuses it, and the block after it
---   zero-missing  a table with each missing place zero
+--   fill-missing, zero-missing    a table with each missing place filled, or zero
 use mathlib.Core.Path.{_≡_}
 use mathlib.Core.Bool.{Bool, true, false, cond}
 use mathlib.Core.List.{List, [], _∷_, _++_}
-use Prim.Native.Nat.{ℕ}
+use Prim.Native.Nat.{ℕ, suc}
 use lib.Dec.{eqb}
 use lib.ListN.{length, getD, set, take, drop, replicate}
 use Rattle.std.specs.shelf.Lists.{countBy}
@@ -45,11 +45,15 @@ received-count m = countBy (λ b. b) (take (m .n) (m .received))
 abbrev pub told-refusal : {S : Type 0} → Block S → Option (ℕ × ℕ)
 told-refusal m = cond (eqb (m .refusal) 0) None (Some (m .refusal, m .value))
 
+-- a table with each missing place filled by a function of its number
+abbrev pub fill-missing : {S : Type 0} → (ℕ → S) → List Bool → List S → List S
+fill-missing f [] xs = xs
+fill-missing f (r ∷ rs) [] = []
+fill-missing f (true ∷ rs) (x ∷ xs) = x ∷ fill-missing (λ c. f (suc c)) rs xs
+fill-missing f (false ∷ rs) (x ∷ xs) = f 0 ∷ fill-missing (λ c. f (suc c)) rs xs
+
 abbrev pub zero-missing : {S : Type 0} → S → List Bool → List S → List S
-zero-missing z [] xs = xs
-zero-missing z (r ∷ rs) [] = []
-zero-missing z (true ∷ rs) (x ∷ xs) = x ∷ zero-missing z rs xs
-zero-missing z (false ∷ rs) (x ∷ xs) = z ∷ zero-missing z rs xs
+zero-missing z rs xs = fill-missing (λ c. z) rs xs
 
 -- the block with a table, flags and whether a permit is out
 abbrev pub with-table : {S : Type 0} → List S → List Bool → Out → Block S → Block S

@@ -6,8 +6,11 @@
 --   after-search  the block after the search: with one codeword its places are filled and a permit is out
 --   Done          all that a solve leaves
 --   solved        what a solve leaves, of a block, a policy and working memory
+--   Sought        the search of a solve, before the block is filled
 --   solve-event   the event that a solve and its answer make
-use mathlib.Core.Bool.{Bool, false}
+use mathlib.Core.Path.{_≡_}
+use mathlib.Core.Bool.{Bool, false, not}
+use lib.Dec.{eqb}
 use mathlib.Core.List.{List, [], _∷_, _++_}
 use Prim.Native.Nat.{ℕ, _*_}
 use lib.ListN.{length, take, drop, replicate}
@@ -19,15 +22,22 @@ use Rattle.symbols.specs.Kinds.{Kind}
 use Rattle.codes.specs.Matrix.{Matrix, height}
 use Rattle.method.specs.Method.{Choice, Outcome, method, final}
 use Rattle.method.specs.Method.Outcome.{none, one, several}
+use Rattle.refusals.specs.Refusals.{Cause, if-so, first-of}
+use Rattle.search.specs.declared.answer.Unfound.{Unfound}
+use Rattle.search.specs.declared.answer.Unfound.the-variants.{OtherWidth, ShortMemory}
+use Rattle.search.specs.declared.answer.Unfound.the-variants as lacks
+use Rattle.search.specs.declared.found.Found.{Found as Seen}
+use Rattle.search.specs.Searches.{Looked}
 use Rattle.search.specs.Answers.{report-of}
 use Rattle.search.specs.Found.{wiped}
 use Rattle.receiver.specs.declared.block.Out.the-variants.{Full}
 use Rattle.receiver.specs.declared.fault.Fault.{Fault}
+use Rattle.receiver.specs.declared.fault.Fault.the-variants as fault
 use Rattle.search.specs.declared.answer.Report.{Report}
 use Rattle.receiver.specs.declared.fault.Unsolved.{Unsolved}
 use Rattle.receiver.specs.declared.fault.Unsolved.the-variants.{Refused, NoCodeword, Several}
 use Rattle.receiver.specs.declared.permit.Permit.{Permit}
-use Rattle.receiver.specs.Calls.{Search, refusal}
+use Rattle.receiver.specs.Calls.{Search, refusal, is-out}
 use Rattle.receiver.specs.Calls.Call.{solve}
 use Rattle.receiver.specs.History.{Event, Found}
 use Rattle.receiver.specs.History.Event.{refused, searched}
@@ -85,3 +95,28 @@ module _ {S P : Type 0} (K : Kind S) (choice : Matrix → Choice P) (k : Matrix)
 
   abbrev pub solved : List ℕ → List S → Done S P
   solved ws ss = solved-by (refusal K (seen m) (solve (search-of k (length ws) (length ss)))) ws ss
+
+-- why a search gave no codeword, as a solve tells it
+abbrev pub as-unsolved : Unfound → Unsolved
+as-unsolved (OtherWidth n) = Refused (fault.OtherWidth n)
+as-unsolved (ShortMemory r) = Refused (fault.ShortMemory r)
+as-unsolved (lacks.NoCodeword r) = NoCodeword r
+as-unsolved (lacks.Several r k) = Several r k
+
+-- what the block itself refuses; the search refuses short memory
+abbrev pub seek-causes : {S : Type 0} → Kind S → Matrix → Block S → List (Cause Fault)
+seek-causes K k m =
+    if-so (is-out (m .out)) (fault.PermitOut (m .stamp))
+    ∷ if-so (not (eqb (k .width) (m .n))) (fault.OtherWidth (k .width))
+    ∷ []
+
+-- a search that was refused changes nothing; one that ran is still to be read out of the right sides
+abbrev pub Sought-by : {S P : Type 0} → Kind S → (Matrix → Choice P) → Matrix → Block S → Option Fault → P → P → List ℕ → List ℕ → List S → List S → Result Seen Unsolved → Type 0
+Sought-by K choice k m (Some f) p p′ ws ws′ ss ss′ r = (r ≡ Err (Refused f)) × (p′ ≡ p) × (ws′ ≡ ws) × (ss′ ≡ ss)
+Sought-by K choice k m None p p′ ws ws′ ss ss′ (Ok f) = Looked K choice k (m .received) (take (m .n) (m .table)) p p′ ws ws′ ss ss′ (Ok f)
+Sought-by K choice k m None p p′ ws ws′ ss ss′ (Err u) =
+    (e : Unfound) × (u ≡ as-unsolved e) × Looked K choice k (m .received) (take (m .n) (m .table)) p p′ ws ws′ ss ss′ (Err e)
+
+abbrev pub Sought : {S P : Type 0} → Kind S → (Matrix → Choice P) → Matrix → Block S → P → P → List ℕ → List ℕ → List S → List S → Result Seen Unsolved → Type 0
+Sought K choice k m p p′ ws ws′ ss ss′ r =
+    Sought-by K choice k m (first-of (seek-causes K k m)) p p′ ws ws′ ss ss′ r

@@ -7,6 +7,7 @@ use crate::fault::Stamp;
 
 mod calls;
 mod runs;
+mod solve;
 mod steps;
 
 // Whether a permit is out.

@@ -1,9 +1,9 @@
 mod answer;
 mod found;
-mod look;
+mod stub;
 
 pub use answer::Report;
 pub use answer::Unfound;
 pub use found::Found;
-pub use look::look;
-pub use look::wipe;
+pub use stub::look;
+pub use stub::wipe;
