@@ -5,5 +5,7 @@ pub mod Stalls
 pub mod Packets
 pub mod Law
 pub mod Searching
+pub mod Solving
+pub mod Promise
 pub mod Bytes
 pub mod Running

@@ -20,7 +20,7 @@ use Rattle.receiver.specs.Calls.{Search, Call, View, is-out, owns, too-short, 
 use Rattle.receiver.specs.Calls.Call.{receive, solve, show, close, renew}
 
 -- where no cause holds, the first does not, and none of the rest
-pub no-cause : (b : Bool) (f : Fault) (rest : Option Fault) → cond b (Some f) rest ≡ None → (b ≡ false) × (rest ≡ None)
+pub no-cause : {F : Type 0} (b : Bool) (f : F) (rest : Option F) → cond b (Some f) rest ≡ None → (b ≡ false) × (rest ≡ None)
 no-cause true f rest e = let z : _≡_ {A = ℕ} 0 1 = cc in absurd (omega arith)
 no-cause false f rest e = (refl, e)
 

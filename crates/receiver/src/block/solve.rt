@@ -2,9 +2,13 @@
 ghost use mathlib.Core.Path.{_≡_};
 ghost use mathlib.Core.List.{[], _∷_};
 ghost use Prim.Native.Nat.{ℕ, _<_, _≤_};
-ghost use lib.ListN.{length, getD};
+ghost use lib.ListN.{length, take};
 ghost use denote.Ref.{name};
-ghost use Rattle.receiver.specs.Solves.{Sought, as-unsolved};
+ghost use Rattle.search.specs.Found.{symbol-at, wiped};
+ghost use Rattle.receiver.specs.declared.block.Out.the-variants.{Full};
+ghost use Rattle.receiver.specs.Blocks.{fill-missing, with-table};
+ghost use Rattle.receiver.specs.Solves.{Sought, as-unsolved, solved, named, search-of, solve-event};
+ghost use Rattle.receiver.specs.Stands.{GoesOn};
 ghost use Rattle.receiver.specs.View.{model};
 use crate::block::Block;
 use crate::block::Out;
@@ -46,5 +50,50 @@ impl<'a, S: Symbol> Block<'a, S> {
             Ok(found) => Ok(found),
             Err(e) => Err(unsolved(e)),
         }
+    }
+
+    // Writes each missing place from the right sides that a search left.
+    fn fill(&mut self, found: &Found, sides: &[S])
+        ensures lent { λ _. ⌜ name (now (self .exit) .table) ≡ name (now (self .entry) .table) ⌝ }
+        ensures marks { λ _. ⌜ now (self .exit) .marks ≡ now (self .entry) .marks ⌝ }
+        ensures table { λ _. ⌜ now (now (self .exit) .table) ≡ fill-missing (symbol-at (S·Symbol .kind) (now (found .entry)) (now (sides .entry))) (take (now (self .entry) .marks .n) (now (self .entry) .marks .received)) (now (now (self .entry) .table)) ⌝ }
+    {
+        for c in 0..self.marks.n {
+            if !self.marks.received[c] {
+                self.table[c] = found.symbol(sides, c);
+            }
+        }
+    }
+
+    // Fills the missing places, wipes the right sides and gives a permit.
+    fn grant(&mut self, found: &Found, rows: usize, sides: &mut [S]) -> Permit
+        ensures lent { λ _. ⌜ name (now (self .exit) .table) ≡ name (now (self .entry) .table) ⌝ }
+        ensures permit { λ r. ⌜ r ≡ record { number = now (self .entry) .marks .number; stamp = now (self .entry) .marks .stamp; report = now (found .entry) .report } ⌝ }
+        ensures values { λ _. ⌜ model (now (self .exit)) ≡ with-table (fill-missing (symbol-at (S·Symbol .kind) (now (found .entry)) (now (sides .entry))) (take (now (self .entry) .marks .n) (now (self .entry) .marks .received)) (now (now (self .entry) .table))) (now (self .entry) .marks .received) Full (model (now (self .entry))) ⌝ }
+        ensures sides { λ _. ⌜ now (sides .exit) ≡ wiped (S·Symbol .kind .zero) rows (now (sides .entry)) ⌝ }
+    {
+        self.fill(found, sides);
+        search::wipe(sides, rows);
+        self.marks.out = Out::Full;
+        Permit::new(self.marks.number, self.marks.stamp, found.report())
+    }
+
+    fn work_out<C: Code, P: Policy>(&mut self, code: &C, policy: &mut P, words: &mut [u64], sides: &mut [S]) -> Result<Permit, Unsolved>
+        ensures lent { λ _. ⌜ name (now (self .exit) .table) ≡ name (now (self .entry) .table) ⌝ }
+        ensures done { λ r. ⌜ record { answer = r; block = model (now (self .exit)); policy = now (policy .exit); words = now (words .exit); sides = now (sides .exit) } ≡ solved (S·Symbol .kind) (P·Policy .choice) (C·Rows .matrix (now (code .entry))) (model (now (self .entry))) (now (policy .entry)) (now (words .entry)) (now (sides .entry)) ⌝ }
+    {
+        match self.seek(code, policy, words, sides) {
+            Ok(found) => Ok(self.grant(&found, code.shape().rows, sides)),
+            Err(e) => Err(e),
+        }
+    }
+
+    // Searches for the one codeword that agrees with what was received, fills the missing places and gives a permit.
+    pub fn solve<C: Code, P: Policy>(&mut self, code: &C, policy: &mut P, words: &mut [u64], sides: &mut [S]) -> Result<Permit, Unsolved>
+        ensures lent { λ _. ⌜ name (now (self .exit) .table) ≡ name (now (self .entry) .table) ⌝ }
+        ensures step { λ r. ⌜ record { answer = r; block = model (now (self .exit)); policy = now (policy .exit); words = now (words .exit); sides = now (sides .exit) } ≡ solved (S·Symbol .kind) (P·Policy .choice) (C·Rows .matrix (now (code .entry))) (model (now (self .entry))) (now (policy .entry)) (now (words .entry)) (now (sides .entry)) ⌝ }
+        ensures history { λ r. ⌜ GoesOn (S·Symbol .kind) (model (now (self .entry))) (solve-event (search-of (C·Rows .matrix (now (code .entry))) (length (now (words .entry))) (length (now (sides .entry)))) (named (S·Symbol .kind) (P·Policy .choice) (C·Rows .matrix (now (code .entry))) (model (now (self .entry))) (now (policy .entry))) r ∷ []) (model (now (self .exit))) ⌝ }
+    {
+        self.work_out(code, policy, words, sides)
     }
 }
