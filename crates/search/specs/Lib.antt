@@ -1,3 +1,0 @@
-pub mod Answers
-pub mod Found
-pub mod Searches
