@@ -36,8 +36,8 @@ header block number = word-bytes (block * 2 ^ 20 + number)
 abbrev pub packet : ℕ → ℕ → List ℕ → List ℕ
 packet block number cell = header block number ++ cell
 
-abbrev pub wrong-length : List ℕ → Cause
-wrong-length bytes = record { holds = not (eqb (length bytes) 68); refuses = refusal 1 (length bytes ∷ []) }
+abbrev pub wrong-length : ℕ → Cause
+wrong-length n = record { holds = not (eqb n 68); refuses = refusal 1 (n ∷ []) }
 
 abbrev pub wrong-block : ℕ → Cause
 wrong-block block = record { holds = leb 4096 block; refuses = refusal 2 (block ∷ []) }
@@ -46,10 +46,11 @@ abbrev pub wrong-number : ℕ → Cause
 wrong-number number = record { holds = leb 1048576 number; refuses = refusal 9 (number ∷ []) }
 
 abbrev pub read-header : List ℕ → Result (ℕ × ℕ) Refusal
-read-header bytes = unless (wrong-length bytes ∷ []) (block-of bytes, number-of bytes)
+read-header bytes = unless (wrong-length (length bytes) ∷ []) (block-of bytes, number-of bytes)
 
 abbrev pub read-cell : List ℕ → Result (List ℕ) Refusal
-read-cell bytes = unless (wrong-length bytes ∷ []) (cell-of bytes)
+read-cell bytes = unless (wrong-length (length bytes) ∷ []) (cell-of bytes)
 
-abbrev pub write-packet : List ℕ → ℕ → ℕ → Result (Unit {0}) Refusal
-write-packet bytes block number = unless (wrong-length bytes ∷ wrong-block block ∷ wrong-number number ∷ []) tt
+-- into a slice of n bytes
+abbrev pub write-packet : ℕ → ℕ → ℕ → Result (Unit {0}) Refusal
+write-packet n block number = unless (wrong-length n ∷ wrong-block block ∷ wrong-number number ∷ []) tt
