@@ -4,8 +4,6 @@ mod call;
 mod hex;
 mod line;
 mod number;
-#[cfg(test)]
-mod tests;
 mod word;
 
 pub use answer::Answer;
