@@ -2,8 +2,9 @@
 --
 --   Said          an answer, by its values
 --   said          what an answer of the program says
+--   written, write-reply                    what writing a packet answers
 --   reply         what a call answers
---   refused-text  a refusal: the number of its cause, and its values
+--   values-text, refused-text, pair-text, outcome      the parts of the line
 --   text          the line that tells an answer
 use mathlib.Core.List.{List, [], _∷_, _++_}
 use Prim.Native.Nat.{ℕ}

@@ -3,6 +3,8 @@
 --   Asked         a call, by its values
 --   asked         what a call of the program asks
 --   only          what a line asks where it has no more words than these
+--   sized, cell-word, length-word           the cell and the slice's length that words give
+--   write-asked, figure-asked               a call from what its words give, none where one gives none
 --   read-call, write-call, figure-call      what the line behind a call's word asks, none where it is not understood
 --   understood    what a line asks, none where it is not understood
 use mathlib.Core.Bool.{cond}

@@ -2,7 +2,9 @@
 --
 --   digit-value   the value of a digit, none for any other character
 --   byte-digits   the two digits of a byte, the high one first
+--   joined        a byte from the values of its digits, none where one is none
 --   byte-of       the byte of two digits, none where one is no digit
+--   before        a byte and those behind it, none where either is none
 --   digits-of     the digits of bytes
 --   pairs-of      the bytes of digits, none where a digit is left over or is none
 --   mark          '-' where there are no bytes

@@ -1,9 +1,11 @@
 -- The answer to a line of a script.
 --
 --   plain         whether a byte is shown as it is: printable ASCII, and no backslash
---   escaped       a byte as text, \xNN where it is not plain
---   shown         the first 60 bytes of a line as text, and '...' where there are more
---   not-understood      the answer to line k where it is no call
+--   escaped, all-escaped      bytes as text, \xNN for each that is not plain
+--   dots          '...' where a line has more than 60 bytes
+--   shown         the first 60 bytes of a line as text, and the dots
+--   not-understood            the answer to line k where it is no call
+--   told          the answer to line k, by what it asks
 --   line-answer   the answer to line k, none where it is passed over
 use mathlib.Core.Bool.{Bool, not, cond, _&&_}
 use mathlib.Core.List.{List, [], _∷_, _++_}
