@@ -15,7 +15,7 @@ use lib.Dec.{eqb, leb}
 use lib.ListN.{length, getD, drop}
 use Rattle.std.specs.declared.result.Result.{Result}
 use Rattle.packets.specs.Faults.{meaning}
-use Rattle.packets.specs.Refusals.{Refusal, Cause, unless}
+use Rattle.refusals.specs.Refusals.{Refusal, Cause, if-so, unless}
 use Rattle.packets.specs.declared.fault.HeaderFault.the-variants.{Length, Block, Number}
 
 abbrev pub word-of : List ℕ → ℕ
@@ -39,14 +39,14 @@ header block number = word-bytes (block * 2 ^ 20 + number)
 abbrev pub packet : ℕ → ℕ → List ℕ → List ℕ
 packet block number cell = header block number ++ cell
 
-abbrev pub wrong-length : ℕ → Cause
-wrong-length n = record { holds = not (eqb n 68); refuses = meaning (Length n) }
+abbrev pub wrong-length : ℕ → Cause Refusal
+wrong-length n = if-so (not (eqb n 68)) (meaning (Length n))
 
-abbrev pub wrong-block : ℕ → Cause
-wrong-block block = record { holds = leb 4096 block; refuses = meaning (Block block) }
+abbrev pub wrong-block : ℕ → Cause Refusal
+wrong-block block = if-so (leb 4096 block) (meaning (Block block))
 
-abbrev pub wrong-number : ℕ → Cause
-wrong-number number = record { holds = leb 1048576 number; refuses = meaning (Number number) }
+abbrev pub wrong-number : ℕ → Cause Refusal
+wrong-number number = if-so (leb 1048576 number) (meaning (Number number))
 
 abbrev pub read-header : List ℕ → Result (ℕ × ℕ) Refusal
 read-header bytes = unless (wrong-length (length bytes) ∷ []) (block-of bytes, number-of bytes)

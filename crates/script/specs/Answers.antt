@@ -15,7 +15,7 @@ use Rattle.std.specs.declared.result.Result.the-variants.{Ok, Err}
 use Rattle.packets.specs.Faults.{answered}
 use Rattle.packets.specs.Figure.{percent}
 use Rattle.packets.specs.Packets.{packet, read-header, write-packet}
-use Rattle.packets.specs.Refusals.{Refusal}
+use Rattle.refusals.specs.Refusals.{Refusal}
 use Rattle.script.specs.Calls.{Asked, read, write, figure}
 use Rattle.script.specs.Hex.{hex-of}
 use Rattle.script.specs.declared.answer.Answer.{Answer}
@@ -50,7 +50,7 @@ values-text [] = []
 values-text (v ∷ vs) = codes " " ++ (decimal v ++ values-text vs)
 
 abbrev pub refused-text : Refusal → List ℕ
-refused-text f = codes " refused " ++ (decimal (f .cause) ++ values-text (f .values))
+refused-text f = codes " refused " ++ (decimal (f .number) ++ values-text (f .values))
 
 abbrev pub pair-text : ℕ × ℕ → List ℕ
 pair-text p = decimal (p .0) ++ (codes " " ++ decimal (p .1))

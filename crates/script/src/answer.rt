@@ -4,7 +4,7 @@ ghost use mathlib.Core.List.{[], _∷_, _++_};
 ghost use Rattle.std.specs.Of.String.{string-bytes};
 ghost use Rattle.std.specs.Vec.{made};
 ghost use Rattle.packets.specs.Faults.{meaning, answered};
-ghost use Rattle.packets.specs.Refusals.{refusal};
+ghost use Rattle.refusals.specs.Refusals.{refusal};
 ghost use Rattle.script.specs.Calls.{asked};
 ghost use Rattle.script.specs.Answers.{said, reply, write-reply, refused-text, text};
 use crate::call::Call;
