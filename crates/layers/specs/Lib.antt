@@ -1,0 +1,3 @@
+pub mod LayerLaws
+pub mod Layers
+pub mod Rows
