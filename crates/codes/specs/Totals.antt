@@ -101,7 +101,7 @@ pub Σ-turned : (f : ℕ → ℕ) (a z : ℕ) → Σ (λ r. f (r / a + r % a * z
     ∙ ap (λ u. Σ (λ r. f (r / a + r % a * z)) u (z * a)) (sym (zero-mul a))
     ∙ Σ-blocks (λ r. f (r / a + r % a * z)) 0 z a
     ∙ Σ-same (λ y. Σ (λ x. f ((y * a + x) / a + (y * a + x) % a * z)) 0 a) (λ y. Σ (λ x. f (x * z + y)) 0 a) 0 z
-      (λ y _ _. Σ-same (λ x. f ((y * a + x) / a + (y * a + x) % a * z)) (λ x. f (x * z + y)) 0 a (λ x l u. across f a z x y (omega arith)))
+    (λ y _ _. Σ-same (λ x. f ((y * a + x) / a + (y * a + x) % a * z)) (λ x. f (x * z + y)) 0 a (λ x l u. across f a z x y (omega arith)))
     ∙ Σ-swap (λ y x. f (x * z + y)) 0 z 0 a
     ∙ sym (Σ-blocks f 0 a z)
     ∙ ap (λ u. Σ f u (a * z)) (zero-mul z)

@@ -76,10 +76,10 @@ member-map : (f g : ℕ → ℕ) → ((c : ℕ) → g (f c) ≡ c) → (x : ℕ)
 member-map f g back x [] = refl
 member-map f g back x (c ∷ cs) =
     let same : eqb (f c) (f x) ≡ eqb c x =
-      ⊎-elim
-      (λ (q : c ≡ x). eq-eqb (f c) (f x) (ap f q) ∙ sym (eq-eqb c x q))
-      (λ (q : c ≡ x → ⊥). ne-eqb (f c) (f x) (λ i. q (sym (back c) ∙ ap g i ∙ back x)) ∙ sym (ne-eqb c x q))
-      (cases-eq c x) in
+    ⊎-elim
+    (λ (q : c ≡ x). eq-eqb (f c) (f x) (ap f q) ∙ sym (eq-eqb c x q))
+    (λ (q : c ≡ x → ⊥). ne-eqb (f c) (f x) (λ i. q (sym (back c) ∙ ap g i ∙ back x)) ∙ sym (ne-eqb c x q))
+    (cases-eq c x) in
     ap (λ b. b || member (f x) (map f cs)) same ∙ ap (λ b. eqb c x || b) (member-map f g back x cs)
 
 apart-map : (f g : ℕ → ℕ) → ((c : ℕ) → g (f c) ≡ c) → (xs : List ℕ) → Apart xs → Apart (map f xs)
@@ -99,7 +99,7 @@ pub turned-ones : (a b z : ℕ) (k : Matrix) → height k ≡ a * z → ones (ta
 turned-ones a b z k e =
     table-ones (height k) (k .width) (interleaved-row a b z k)
     ∙ Σ-same (λ r. length (interleaved-row a b z k r)) (λ r. weight k (r / a + r % a * z)) 0 (height k)
-      (λ r _ u. length-map (row-at k (turn z a r)) (turn b z) ∙ ap (weight k) (turn-small z a r (omega (arith, mul-comm a z))))
+    (λ r _ u. length-map (row-at k (turn z a r)) (turn b z) ∙ ap (weight k) (turn-small z a r (omega (arith, mul-comm a z))))
     ∙ ap (λ h. Σ (λ r. weight k (r / a + r % a * z)) 0 h) e
     ∙ Σ-turned (weight k) a z
     ∙ ap (λ h. Σ (weight k) 0 h) (sym e)

@@ -5,11 +5,11 @@ ghost use Rattle.layers.specs.LayerLaws.{interleaved-lawful};
 ghost use Rattle.layers.specs.Layers.{squares-fit, interleaved, Fitted};
 ghost use Rattle.layers.specs.Rows.{column-above, Shows};
 use crate::turning::turn;
-use codes::scan;
 use codes::Code;
 use codes::Refusal;
 use codes::Rows;
 use codes::Shape;
+use codes::scan;
 
 // a lines of b squares, each of z rows and z columns, in the code below.
 #[derive(Drop)]
@@ -26,7 +26,8 @@ impl<C: Rows> Interleaved<C> {
         ensures { λ r. ⌜ r ≡ squares-fit (now (self .entry) .a) (now (self .entry) .b) (now (self .entry) .z) (shape-of (C·Rows .matrix (now (self .entry) .below))) ⌝ }
     {
         let shape = self.below.shape();
-        self.a.checked_mul(self.z) == Some(shape.rows) && self.b.checked_mul(self.z) == Some(shape.columns)
+        self.a.checked_mul(self.z) == Some(shape.rows)
+            && self.b.checked_mul(self.z) == Some(shape.columns)
     }
 
     // The row below that row r shows.
@@ -76,9 +77,18 @@ pub impl<C: Rows> Code for Interleaved<C> as InterleavedCode {
 }
 
 // The code below with its rows and columns turned, or a refusal where it is not of a x b squares of z rows and columns.
-pub fn interleave<C: Rows + Drop>(below: C, a: usize, b: usize, z: usize) -> Result<Interleaved<C>, Refusal>
+pub fn interleave<C: Rows + Drop>(
+    below: C,
+    a: usize,
+    b: usize,
+    z: usize,
+) -> Result<Interleaved<C>, Refusal>
     ensures { λ r. ⌜ Fitted (squares-fit a b z (shape-of (C·Rows .matrix below))) (record { below = below; a = a; b = b; z = z }) r ⌝ }
 {
     let layer = Interleaved { below, a, b, z };
-    if layer.fits() { Ok(layer) } else { Err(Refusal::BadShape) }
+    if layer.fits() {
+        Ok(layer)
+    } else {
+        Err(Refusal::BadShape)
+    }
 }

@@ -4,13 +4,13 @@ ghost use Prim.Native.Nat.{_≤_};
 ghost use Rattle.layers.specs.LayerLaws.{stacked-lawful};
 ghost use Rattle.layers.specs.Layers.{shapes-fit, stack-fits, stacked, Fitted};
 ghost use Rattle.layers.specs.Rows.{Found};
-use codes::scan;
 use codes::Code;
+use codes::MAX_ONES;
+use codes::MAX_ROWS;
 use codes::Refusal;
 use codes::Rows;
 use codes::Shape;
-use codes::MAX_ONES;
-use codes::MAX_ROWS;
+use codes::scan;
 
 #[derive(Drop)]
 pub struct Stacked<P, Q> {
@@ -41,7 +41,11 @@ impl<P: Rows, Q: Rows> Stacked<P, Q> {
         if r < s.rows {
             return Part::First(r);
         }
-        if shapes_fit(s, self.second.shape()) { Part::Second(r - s.rows) } else { Part::First(r) }
+        if shapes_fit(s, self.second.shape()) {
+            Part::Second(r - s.rows)
+        } else {
+            Part::First(r)
+        }
     }
 }
 
@@ -88,5 +92,9 @@ pub impl<P: Rows, Q: Rows> Code for Stacked<P, Q> as StackedCode {
 pub fn stack<P: Rows + Drop, Q: Rows + Drop>(first: P, second: Q) -> Result<Stacked<P, Q>, Refusal>
     ensures { λ r. ⌜ Fitted (stack-fits (P·Rows .matrix first) (Q·Rows .matrix second)) (record { first = first; second = second }) r ⌝ }
 {
-    if shapes_fit(first.shape(), second.shape()) { Ok(Stacked { first, second }) } else { Err(Refusal::BadShape) }
+    if shapes_fit(first.shape(), second.shape()) {
+        Ok(Stacked { first, second })
+    } else {
+        Err(Refusal::BadShape)
+    }
 }
