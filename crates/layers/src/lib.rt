@@ -1,6 +1,8 @@
 // Layers over other codes: interleaved, and stacked.
 mod interleaved;
 mod stacked;
+#[cfg(test)]
+mod tests;
 mod theorems;
 mod turning;
 
