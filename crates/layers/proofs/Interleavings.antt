@@ -1,28 +1,23 @@
 -- The rows and sizes of an interleaved code, from those below.
-use mathlib.Core.Path.{_≡_, refl, sym, ap, subst, _∙_}
+use mathlib.Core.Path.{_≡_, sym, ap, subst, _∙_}
 use mathlib.Core.Bool.{Bool, true, false}
-use mathlib.Core.List.{List, [], _∷_, map}
+use mathlib.Core.List.{[], map}
 use mathlib.Core.Logic.{⊎-elim}
-use Prim.Native.Nat.{ℕ, zero, suc, _*_, _≤_, _<_}
+use Prim.Native.Nat.{ℕ, _≤_, _<_}
 use native.Mathlib.Nat.{mul-comm}
 use native.Mathlib.Omega.{arith}
 use lib.ListN.{length}
 use Rattle.std.specs.Finite.{nth}
 use Rattle.std.specs.Options.{mapped}
+use Rattle.std.proofs.iter.runs.Lists.{nth-map}
 use Rattle.std.proofs.shelf.Lists.{length-map, getD-past}
 use Rattle.std.proofs.shelf.Tests.{cond-true, cond-false, cases-bool, cases-lt}
-use Rattle.std.specs.declared.option.Option.the-variants.{Some, None}
 use Rattle.codes.specs.Matrix.{Matrix, height, ones, row-at, weight, column-at}
 use Rattle.codes.specs.Shapes.{shape-of}
 use Rattle.codes.specs.Tables.{table, table-at, table-past, table-height}
 use Rattle.layers.specs.LayerLaws.{squares-parts, turned-ones, turn-large}
 use Rattle.layers.specs.Layers.{turn, squares-fit, interleaved, interleaved-row}
 use Rattle.layers.specs.Rows.{Shows}
-
-nth-map : (f : ℕ → ℕ) (xs : List ℕ) (i : ℕ) → nth (map f xs) i ≡ mapped f (nth xs i)
-nth-map f [] i = refl
-nth-map f (x ∷ xs) zero = refl
-nth-map f (x ∷ xs) (suc i) = nth-map f xs i
 
 module _ (a b z : ℕ) (k : Matrix) (f : squares-fit a b z (shape-of k) ≡ true) where
   pub interleaved-yes : interleaved a b z k ≡ table (height k) (k .width) (interleaved-row a b z k)
@@ -49,10 +44,7 @@ module _ (a b z : ℕ) (k : Matrix) (f : squares-fit a b z (shape-of k) ≡ true
   interleaved-ones = sym (ap ones interleaved-yes ∙ turned-ones a b z k (squares-parts a b z k f .0))
 
   sizes-kept : shape-of k ≡ shape-of (interleaved a b z k)
-  sizes-kept =
-      ap (λ (h : ℕ). record { rows = h; columns = k .width; ones = ones k }) interleaved-height
-      ∙ ap (λ (n : ℕ). record { rows = height (interleaved a b z k); columns = n; ones = ones k }) (sym (ap (λ x. x .width) interleaved-yes))
-      ∙ ap (λ (o : ℕ). record { rows = height (interleaved a b z k); columns = interleaved a b z k .width; ones = o }) interleaved-ones
+  sizes-kept = λ i. record { rows = interleaved-height i; columns = sym (ap (λ x. x .width) interleaved-yes) i; ones = interleaved-ones i }
 
   column-turned : (r i : ℕ) → column-at (interleaved a b z k) r i ≡ mapped (turn b z) (column-at k (turn z a r) i)
   column-turned r i = ap (λ row. nth row i) (interleaved-at r) ∙ nth-map (turn b z) (row-at k (turn z a r)) i

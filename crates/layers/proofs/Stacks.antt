@@ -30,9 +30,7 @@ module _ (k l : Matrix) where
   stacked-shape s t p q f =
       ap (λ (u : Shape). record { rows = u .rows + t .rows; columns = u .columns; ones = u .ones + t .ones }) p
       ∙ ap (λ (u : Shape). record { rows = height k + u .rows; columns = k .width; ones = ones k + u .ones }) q
-      ∙ ap (λ (h : ℕ). record { rows = h; columns = k .width; ones = ones k + ones l }) (stacked-height f)
-      ∙ ap (λ (o : ℕ). record { rows = height (stacked k l); columns = k .width; ones = o }) (stacked-ones f)
-      ∙ ap (λ (n : ℕ). record { rows = height (stacked k l); columns = n; ones = ones (stacked k l) }) (sym (ap (λ x. x .width) (stacked-yes f)))
+      ∙ λ i. record { rows = stacked-height f i; columns = sym (ap (λ x. x .width) (stacked-yes f)) i; ones = stacked-ones f i }
 
   pub in-second : (r m : ℕ) → stack-fits k l ≡ true → m ≡ height k → m ≤ r → row-at (stacked k l) r ≡ row-at l (r - m)
   in-second r m f e h = ap (λ x. row-at x r) (stacked-yes f) ∙ getD-append-right (k .rows) (l .rows) m r [] (sym e) h

@@ -1,13 +1,12 @@
 -- Codewords of layers.
 use mathlib.Core.Path.{_≡_, refl, sym, ap, subst, _∙_}
 use mathlib.Core.Bool.{true}
-use mathlib.Core.List.{List, [], _∷_, map}
+use mathlib.Core.List.{List, [], map, map-map}
 use mathlib.Core.Logic.{⊎-elim}
 use Prim.Native.Nat.{ℕ, _+_, _-_, _*_, _≤_, _<_}
 use native.Mathlib.Nat.{mul-comm}
 use native.Mathlib.Omega.{arith}
 use lib.ListN.{length, getD}
-use Rattle.std.specs.Iters.{counting}
 use Rattle.std.proofs.shelf.Counted.{length-map-counting, getD-map-counting}
 use Rattle.std.proofs.shelf.Elements.{all-getD, all-from-getD}
 use Rattle.std.proofs.shelf.Lists.{ext-getD, getD-past}
@@ -55,8 +54,7 @@ module _ {S : Type 0} (K : Kind S) where
         (cases-lt c (p * q))
 
     picked-same : (row : List ℕ) → picked (K .zero) (permuted (K .zero) (turn q p) w) (map (turn p q) row) ≡ picked (K .zero) w row
-    picked-same [] = refl
-    picked-same (c ∷ cs) = ap (λ x. x ∷ picked (K .zero) (permuted (K .zero) (turn q p) w) (map (turn p q) cs)) (permuted-at c) ∙ ap (λ xs. getD w c (K .zero) ∷ xs) (picked-same cs)
+    picked-same row = map-map (λ c. getD (permuted (K .zero) (turn q p) w) c (K .zero)) (turn p q) row ∙ ap (λ h. map h row) (λ i c. permuted-at c i)
 
     checks-same : (row : List ℕ) → Checks w row → Checks (permuted (K .zero) (turn q p) w) (map (turn p q) row)
     checks-same row h = ap (total (K .zero) (K .sum)) (picked-same row) ∙ h

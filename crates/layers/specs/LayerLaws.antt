@@ -6,7 +6,7 @@
 --   stack-parts           what `stack-fits` tells
 --   stacked-lawful        a stacked code is lawful
 use mathlib.Core.Path.{_≡_, refl, sym, ap, subst, _∙_}
-use mathlib.Core.Bool.{true, false, cond, _&&_, _||_}
+use mathlib.Core.Bool.{true, _&&_, _||_}
 use mathlib.Core.List.{List, [], _∷_, _++_, map}
 use mathlib.Core.Logic.{⊎-elim}
 use Prim.Native.Nat.{ℕ, zero, suc, _+_, _*_, _/_, _%_, _≤_, _<_}
@@ -14,7 +14,7 @@ use native.Mathlib.Omega.{arith}
 use native.Mathlib.Nat.{add-comm, mul-comm, zero-mul}
 use lib.Arith.{digits-lt}
 use lib.ListN.{length}
-use lib.Dec.{eqb, ltb, leb}
+use lib.Dec.{eqb, leb}
 use Rattle.std.specs.shelf.Lists.{All, sumBy}
 use Rattle.std.proofs.shelf.Bits.{div-add-mod', div-mul-add, mod-mul-add, div-below, mod-below}
 use Rattle.std.proofs.shelf.Elements.{all-append, all-map, all-weaker}
