@@ -1,6 +1,5 @@
 -- Why a code is not made: each cause by its number, with the values that it returns.
 --
---   Cause                  a number, and the values returned beside it
 --   bad-shape, bad-entry   the two causes for which no code is made
 --   meaning                the cause that a refusal stands for
 --   told                   an answer, its refusal read as its cause
@@ -13,18 +12,16 @@ use Rattle.std.specs.declared.option.Option.{Option}
 use Rattle.std.specs.declared.option.Option.the-variants.{Some, None}
 use Rattle.std.specs.declared.result.Result.{Result}
 use Rattle.std.specs.declared.result.Result.the-variants.{Ok, Err}
+use Rattle.refusals.specs.Refusals.{refusal}
+pub use Rattle.refusals.specs.Refusals.{Refusal as Cause}
 use Rattle.codes.specs.declared.refusal.Refusal.{Refusal}
 use Rattle.codes.specs.declared.refusal.Refusal.the-variants.{BadShape, BadEntry}
 
-pub record Cause : Type 0 where
-  pub number : ℕ
-  pub values : List ℕ
-
 abbrev pub bad-shape : Cause
-bad-shape = record { number = 17; values = [] }
+bad-shape = refusal 17 []
 
 abbrev pub bad-entry : ℕ → Cause
-bad-entry i = record { number = 16; values = i ∷ [] }
+bad-entry i = refusal 16 (i ∷ [])
 
 abbrev pub meaning : Refusal → Cause
 meaning BadShape = bad-shape
