@@ -10,7 +10,7 @@ use lib.Seq.{take-all}
 use borrow.Author.Tests.{eqb-true, leb-true, leb-false}
 use Rattle.std.specs.declared.result.Result.{Result}
 use Rattle.std.specs.declared.result.Result.the-variants.{Ok, Err}
-use Rattle.packets.specs.Refusals.{Refusal, refusal}
+use Rattle.refusals.specs.Refusals.{Refusal, refusal}
 use Rattle.packets.specs.Packets.{block-of, number-of, cell-of, read-header, read-cell}
 use Rattle.receiver.specs.Runs.{cut, packets-in}
 
