@@ -1,10 +1,39 @@
 // The panel's program: reads a script from standard input, and prints the answer to each call.
+use piles::Pile;
+use piles::answer_code;
+use piles::answer_row;
 use script::answer_line;
+use script::is_word;
+use script::refuse_line;
+use script::split_word;
+use std::alloc::AllocError;
+use std::alloc::Global;
 use std::io;
 use std::io::BufRead;
 use std::io::BufReader;
 use std::io::BufWriter;
 use std::io::Write;
+
+// The answer to line `k`, with a code in hand or none; none where the line is passed over.
+fn answer(
+    heap: Global,
+    k: u64,
+    line: &[u8],
+    code: &mut Option<Pile>,
+) -> Result<Option<String>, AllocError> {
+    let (word, rest) = split_word(line);
+    let told = if is_word(word, "code") {
+        answer_code(heap, rest, code)?
+    } else if is_word(word, "row") {
+        answer_row(heap, rest, code)?
+    } else {
+        return answer_line(heap, k, line);
+    };
+    match told {
+        Some(text) => Ok(Some(text)),
+        None => Ok(Some(refuse_line(heap, k, line)?)),
+    }
+}
 
 fn main(rt: LibcRuntime) -> io::Result<()> {
     let heap = rt.alloc();
@@ -12,6 +41,7 @@ fn main(rt: LibcRuntime) -> io::Result<()> {
     let mut output = BufWriter::new(rt.stdout());
     // One buffer holds each line in turn.
     let mut line = Vec::new(heap);
+    let mut code = None;
     for k in 1..u64::MAX {
         line.clear();
         if input.read_until(b'\n', &mut line)? == 0 {
@@ -20,8 +50,8 @@ fn main(rt: LibcRuntime) -> io::Result<()> {
         if let Some(b'\n') = line.last() {
             line.pop();
         }
-        if let Some(answer) = answer_line(heap, k, line.as_slice())? {
-            output.write_all(answer.as_bytes())?;
+        if let Some(told) = answer(heap, k, line.as_slice(), &mut code)? {
+            output.write_all(told.as_bytes())?;
             output.write_all(b"\n")?;
         }
     }
