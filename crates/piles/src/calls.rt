@@ -7,16 +7,13 @@ ghost use Rattle.std.specs.Vec.{made};
 ghost use Rattle.std.specs.Written.{decimal};
 ghost use Rattle.codes.specs.Refusals.{told};
 ghost use Rattle.script.specs.Answers.{values-text};
-ghost use Rattle.piles.specs.Answers.{code-text};
+ghost use Rattle.piles.specs.Answers.{code-text, in-hand, no-code, row-text};
+ghost use Rattle.piles.specs.Piles.{pile-code, shape-told};
 use crate::pile::Pile;
-use crate::reading::read_pile;
 use crate::row::row_of;
 use crate::sizes::sizes_of;
 use codes::Refusal;
 use codes::Shape;
-use script::is_blank;
-use script::read_number;
-use script::split_word;
 use std::alloc::AllocError;
 use std::alloc::Global;
 
@@ -57,40 +54,36 @@ fn code_text(heap: Global, answer: Result<Shape, Refusal>) -> Result<String, All
     }
 }
 
-// code CODE: takes the code of the line in hand where it is made. None where the line is not understood.
-pub fn answer_code(
-    heap: Global,
-    line: &[u8],
-    hand: &mut Option<Pile>,
-) -> Result<Option<String>, AllocError> {
-    let Some(pile) = read_pile(heap, line)? else {
-        return Ok(None);
-    };
-    let made = sizes_of(&pile);
-    if made.is_ok() {
-        *hand = Some(pile);
+// Takes the code of a pile in hand where it is made, and tells whether it is.
+pub fn take_code(heap: Global, pile: Pile, hand: &mut Option<Pile>) -> Result<String, AllocError>
+    ensures text { λ r. ⌜ made r (λ s. string-bytes s ≡ code-text (shape-told (pile-code pile))) ⌝ }
+    ensures hand { λ _. ⌜ now (hand .exit) ≡ in-hand (pile-code pile) pile (now (hand .entry)) ⌝ }
+{
+    match sizes_of(&pile) {
+        Ok(shape) => {
+            *hand = Some(pile);
+            code_text(heap, Ok(shape))
+        }
+        Err(refusal) => code_text(heap, Err(refusal)),
     }
-    Ok(Some(code_text(heap, made)?))
 }
 
-// row R of the code in hand. None where the line is not understood.
-pub fn answer_row(
-    heap: Global,
-    line: &[u8],
-    hand: &Option<Pile>,
-) -> Result<Option<String>, AllocError> {
-    let (word, rest) = split_word(line);
-    if !is_blank(rest) {
-        return Ok(None);
-    }
-    let Some(r) = read_number(word) else {
-        return Ok(None);
-    };
-    let Some(pile) = hand else {
-        return Ok(Some(String::from_str(heap, "row no code in hand")?));
-    };
-    match row_of(heap, pile, r as usize) {
-        Ok(columns) => Ok(Some(numbers_text(heap, "row", columns?.as_slice())?)),
-        Err(_) => Ok(Some(String::from_str(heap, "row no code in hand")?)),
+// The line that tells of no code.
+fn no_code(heap: Global) -> Result<String, AllocError>
+    ensures { λ r. ⌜ made r (λ s. string-bytes s ≡ no-code) ⌝ }
+{
+    format!(heap, "row no code in hand")
+}
+
+// Tells row r of the code in hand.
+pub fn tell_row(heap: Global, r: usize, hand: &Option<Pile>) -> Result<String, AllocError>
+    ensures { λ t. ⌜ made t (λ s. string-bytes s ≡ row-text r (now (hand .entry))) ⌝ }
+{
+    match hand {
+        None => no_code(heap),
+        Some(pile) => match row_of(heap, pile, r) {
+            Ok(columns) => numbers_text(heap, "row", columns?.as_slice()),
+            Err(_) => no_code(heap),
+        },
     }
 }

@@ -10,11 +10,12 @@ mod task;
 mod written;
 
 pub use base::Base;
-pub use calls::answer_code;
-pub use calls::answer_row;
+pub use calls::take_code;
+pub use calls::tell_row;
 pub use pile::Pile;
 pub use pile::Squares;
 pub use reading::read_pile;
+pub use reading::read_row;
 pub use row::row_of;
 pub use sizes::sizes_of;
 pub use task::Task;

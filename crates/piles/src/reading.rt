@@ -1,4 +1,8 @@
-// How a line is read as a pile.
+// How a line is read as a pile, or as a row.
+ghost use mathlib.Core.Path.{_≡_};
+ghost use Rattle.script.specs.Calls.{only};
+ghost use Rattle.script.specs.Numbers.{number-of};
+ghost use Rattle.script.specs.Words.{word};
 use crate::base::Base;
 use crate::pile::Pile;
 use crate::pile::Squares;
@@ -153,4 +157,15 @@ pub fn read_pile(heap: Global, line: &[u8]) -> Result<Option<Pile>, AllocError> 
             None => Ok(None),
         }
     }
+}
+
+// The row that a line writes, its only word; none where it is not understood.
+pub fn read_row(line: &[u8]) -> Option<u32>
+    ensures { λ r. ⌜ r ≡ only 1 (now (line .entry)) (number-of (word 0 (now (line .entry)))) ⌝ }
+{
+    let (word, rest) = split_word(line);
+    if !is_blank(rest) {
+        return None;
+    }
+    read_number(word)
 }
