@@ -1,0 +1,40 @@
+-- Why a code is not made: each cause by its number, with the values that it returns.
+--
+--   Cause                  a number, and the values returned beside it
+--   bad-shape, bad-entry   the two causes for which no code is made
+--   meaning                the cause that a refusal stands for
+--   told                   an answer, its refusal read as its cause
+--   judged                 the order of judging: sizes, then the first bad place, then the number of ones
+use mathlib.Core.Bool.{Bool, true, false, cond}
+use mathlib.Core.List.{List, [], _∷_}
+use Prim.Native.Nat.{ℕ}
+use lib.Dec.{leb}
+use Rattle.std.specs.declared.option.Option.{Option}
+use Rattle.std.specs.declared.option.Option.the-variants.{Some, None}
+use Rattle.std.specs.declared.result.Result.{Result}
+use Rattle.std.specs.declared.result.Result.the-variants.{Ok, Err}
+use Rattle.codes.specs.declared.refusal.Refusal.{Refusal}
+use Rattle.codes.specs.declared.refusal.Refusal.the-variants.{BadShape, BadEntry}
+
+pub record Cause : Type 0 where
+  pub number : ℕ
+  pub values : List ℕ
+
+abbrev pub bad-shape : Cause
+bad-shape = record { number = 17; values = [] }
+
+abbrev pub bad-entry : ℕ → Cause
+bad-entry i = record { number = 16; values = i ∷ [] }
+
+abbrev pub meaning : Refusal → Cause
+meaning BadShape = bad-shape
+meaning (BadEntry i) = bad-entry i
+
+abbrev pub told : {A : Type 0} → Result A Refusal → Result A Cause
+told (Ok x) = Ok x
+told (Err e) = Err (meaning e)
+
+abbrev pub judged : Bool → Option ℕ → ℕ → Result (Unit {0}) Cause
+judged false bad ones = Err bad-shape
+judged true (Some i) ones = Err (bad-entry i)
+judged true None ones = cond (leb ones 4096) (Ok tt) (Err bad-shape)
