@@ -6,3 +6,6 @@ pub mod Trees  -- forests: a column pointed further up, and two roots joined
 pub mod Scans  -- the active columns of a row, read place by place up to a third
 pub mod Labels  -- the labels that pairs give to columns, and the pairs that rows give
 pub mod Sizes  -- the active columns of each label, counted as the forest is flattened
+pub mod Edges  -- the pairs that rows give are the edges
+pub mod Components  -- columns have one label exactly where edges join them
+pub mod Leading  -- what the policies name is heavy, and leads a component

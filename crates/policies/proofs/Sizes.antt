@@ -1,15 +1,14 @@
 -- The active columns of each label, counted column by column as the forest is flattened.
-use mathlib.Core.Path.{_≡_, refl, sym, ap, subst, _∙_}
+use mathlib.Core.Path.{_≡_, refl, sym, ap, _∙_}
 use mathlib.Core.Bool.{Bool, true, false, _&&_}
 use mathlib.Core.List.{List, [], _∷_}
-use mathlib.Core.Logic.{_≢_, _⊎_, inl, inr, ⊎-elim}
-use Prim.Native.Nat.{ℕ, zero, suc, _+_, _<_, _≤_}
+use mathlib.Core.Logic.{_⊎_, inl, inr, ⊎-elim}
+use Prim.Native.Nat.{ℕ, _+_, _<_, _≤_}
 use native.Mathlib.Omega.{arith}
 use lib.ListN.{length, set, length-set, replicate}
 use lib.Dec.{eqb}
 use Rattle.std.proofs.shelf.Lists.{length-replicate}
 use Rattle.std.proofs.shelf.Tests.{cases-lt, cases-eq}
-use Rattle.std.specs.declared.option.Option.the-variants.{None}
 use Rattle.method.specs.Sets.{has, bump}
 use Rattle.method.specs.Choices.{count-to, top, label, labels, in-set, size-of, largest-of}
 use Rattle.method.proofs.Counts.{num}
@@ -84,7 +83,3 @@ pub largest-is : (a : List Bool) (es : List (ℕ × ℕ)) (w : ℕ → ℕ) → 
     → ((l : ℕ) → l < length a → w l ≡ size-of a (label (labels (length a) es)) l) → top w a ≡ largest-of a es
 largest-is a [] w s h = let z : _≡_ {A = ℕ} 1 0 = ap num s in absurd (omega arith)
 largest-is a (e ∷ es) w s h = top-same w (size-of a (label (labels (length a) (e ∷ es)))) a (length a) h
-
-pub largest-none : (a : List Bool) (es : List (ℕ × ℕ)) → false ≡ some-of es → None ≡ largest-of a es
-largest-none a [] s = refl
-largest-none a (e ∷ es) s = let z : _≡_ {A = ℕ} 0 1 = ap num s in absurd (omega arith)

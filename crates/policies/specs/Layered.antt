@@ -1,8 +1,6 @@
 -- A policy over another.
 --
 --   asking-below  what the policy below names, and its next state below
-use mathlib.Core.Bool.{Bool}
-use mathlib.Core.List.{List}
 use Rattle.method.specs.Method.{Choice}
 use Rattle.policies.specs.declared.component.Component.{Component}
 

@@ -3,3 +3,4 @@ pub mod Numbers
 pub mod Scans
 pub mod Forests
 pub mod Layered
+pub mod Relations

@@ -8,6 +8,7 @@ mod joins;
 mod pairs;
 mod policy;
 mod sets;
+mod theorems;
 mod top;
 
 pub use columns::Columns;
@@ -18,3 +19,5 @@ pub use first::FirstPolicy;
 pub use heaviest::Heaviest;
 pub use heaviest::HeaviestPolicy;
 pub use policy::Policy;
+pub use theorems::component_leads;
+pub use theorems::heaviest_is_heavy;
