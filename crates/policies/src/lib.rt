@@ -8,6 +8,8 @@ mod joins;
 mod pairs;
 mod policy;
 mod sets;
+#[cfg(test)]
+mod tests;
 mod theorems;
 mod top;
 
