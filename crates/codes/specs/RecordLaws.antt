@@ -1,11 +1,12 @@
 -- Records without a bad one make a lawful code. (Lemmas: nothing here is to be believed.)
 --
+--   went-on               how a search for the first bad place finds none
 --   rank                  a record's number by row, then by column
 --   Rising                records in range, of rising ranks from `low` on
 --   rising                records without a bad one are so
 --   rows-rise             a later record is of the same row or of a later one
---   narrow                how wide a code may be
---   listed-ones, listed-lawful    the ones of a listed code, and that it is lawful
+--   Sizes, sizes          the bounds that `sizes-fit` tells
+--   listed-rising, listed-ones, listed-lawful    of a listed code: its records rise, how many ones it has, and that it is lawful
 use mathlib.Core.Path.{_≡_, refl, _∙_}
 use mathlib.Core.Bool.{Bool, true, false, cond, _&&_}
 use mathlib.Core.List.{List, [], _∷_, map}
@@ -23,7 +24,7 @@ use Rattle.std.specs.declared.option.Option.the-variants.{Some, None}
 use Rattle.codes.specs.declared.record.Record.{Record}
 use Rattle.codes.specs.Matrix.{Apart, Row, Lawful, ones}
 use Rattle.codes.specs.MatrixLaws.{not-member}
-use Rattle.codes.specs.Records.{columns-of, listed, sizes-fit, precedes, follows, good, first-bad, row-of}
+use Rattle.codes.specs.Records.{columns-of, listed, sizes-fit, follows, good, first-bad, row-of}
 use Rattle.codes.specs.Tables.{table-ones, table-lawful}
 use Rattle.codes.specs.Totals.{Σ, Σ-add, Σ-none, Σ-one, Σ-same}
 
@@ -52,7 +53,8 @@ follows-rank (Some j) k h f =
     let p = and-parts (eqb (j .row) (k .row)) (ltb (j .column) (k .column)) s in omega (arith, eqb-true _ _ (p .0), ltb-true _ _ (p .1)))
     (or-cases (ltb (j .row) (k .row)) (eqb (j .row) (k .row) && ltb (j .column) (k .column)) f)
 
-went-on : (b : Bool) (i : ℕ) (o : Option ℕ) → isSome (cond b o (Some i)) ≡ false → (b ≡ true) × (isSome o ≡ false)
+-- a search for the first bad place that found none went on past a good one
+pub went-on : (b : Bool) (i : ℕ) (o : Option ℕ) → isSome (cond b o (Some i)) ≡ false → (b ≡ true) × (isSome o ≡ false)
 went-on true i o e = (refl, e)
 went-on false i o e = absurd (true≢false e)
 

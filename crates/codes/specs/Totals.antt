@@ -90,18 +90,18 @@ pub Σ-swap : (g : ℕ → ℕ → ℕ) (s n t m : ℕ) → Σ (λ x. Σ (λ y. 
 Σ-swap g s (suc n) t m =
     ap (λ v. Σ (λ y. g s y) t m + v) (Σ-swap g (s + 1) n t m) ∙ sym (Σ-add (λ y. g s y) (λ y. Σ (λ x. g x y) (s + 1) n) t m)
 
-across : (f : ℕ → ℕ) (a z x y : ℕ) → x < a → f ((y * a + x) % a * z + (y * a + x) / a) ≡ f (x * z + y)
+across : (f : ℕ → ℕ) (a z x y : ℕ) → x < a → f ((y * a + x) / a + (y * a + x) % a * z) ≡ f (x * z + y)
 across f a z x y h =
-    ap (λ v. f (v * z + (y * a + x) / a)) (mod-mul-add y a x h) ∙ ap (λ v. f (x * z + v)) (div-mul-add y a x h)
+    ap (λ v. f (v + (y * a + x) % a * z)) (div-mul-add y a x h) ∙ ap (λ v. f (y + v * z)) (mod-mul-add y a x h) ∙ ap f (add-comm y (x * z))
 
 -- numbers read as x * z + y, for x + y * a, sum to the same
-pub Σ-turned : (f : ℕ → ℕ) (a z : ℕ) → Σ (λ r. f (r % a * z + r / a)) 0 (a * z) ≡ Σ f 0 (a * z)
+pub Σ-turned : (f : ℕ → ℕ) (a z : ℕ) → Σ (λ r. f (r / a + r % a * z)) 0 (a * z) ≡ Σ f 0 (a * z)
 Σ-turned f a z =
-    ap (λ v. Σ (λ r. f (r % a * z + r / a)) 0 v) (mul-comm a z)
-    ∙ ap (λ u. Σ (λ r. f (r % a * z + r / a)) u (z * a)) (sym (zero-mul a))
-    ∙ Σ-blocks (λ r. f (r % a * z + r / a)) 0 z a
-    ∙ Σ-same (λ y. Σ (λ x. f ((y * a + x) % a * z + (y * a + x) / a)) 0 a) (λ y. Σ (λ x. f (x * z + y)) 0 a) 0 z
-    (λ y _ _. Σ-same (λ x. f ((y * a + x) % a * z + (y * a + x) / a)) (λ x. f (x * z + y)) 0 a (λ x l u. across f a z x y (omega arith)))
+    ap (λ v. Σ (λ r. f (r / a + r % a * z)) 0 v) (mul-comm a z)
+    ∙ ap (λ u. Σ (λ r. f (r / a + r % a * z)) u (z * a)) (sym (zero-mul a))
+    ∙ Σ-blocks (λ r. f (r / a + r % a * z)) 0 z a
+    ∙ Σ-same (λ y. Σ (λ x. f ((y * a + x) / a + (y * a + x) % a * z)) 0 a) (λ y. Σ (λ x. f (x * z + y)) 0 a) 0 z
+    (λ y _ _. Σ-same (λ x. f ((y * a + x) / a + (y * a + x) % a * z)) (λ x. f (x * z + y)) 0 a (λ x l u. across f a z x y (omega arith)))
     ∙ Σ-swap (λ y x. f (x * z + y)) 0 z 0 a
     ∙ sym (Σ-blocks f 0 a z)
     ∙ ap (λ u. Σ f u (a * z)) (zero-mul z)

@@ -1,6 +1,6 @@
 -- The line of squares that holds a row.
-use mathlib.Core.Path.{_≡_, refl, sym, ap, subst, _∙_}
-use mathlib.Core.Bool.{Bool, true, false, cond}
+use mathlib.Core.Path.{_≡_, sym, ap, subst, _∙_}
+use mathlib.Core.Bool.{true, false}
 use mathlib.Core.List.{List, [], _∷_}
 use Prim.Native.Nat.{ℕ, zero, suc, _+_, _*_, _/_, _≤_, _<_}
 use native.Mathlib.Omega.{arith}
@@ -11,18 +11,12 @@ use Rattle.std.specs.Finite.{nth}
 use Rattle.std.specs.Options.{isSome}
 use Rattle.std.proofs.shelf.Bits.{div-below}
 use Rattle.std.proofs.shelf.Lists.{length-take, getD-take, getD-drop}
-use Rattle.std.proofs.shelf.Tests.{true≢false}
-use Rattle.std.specs.declared.option.Option.{Option}
-use Rattle.std.specs.declared.option.Option.the-variants.{Some}
+use Rattle.codes.specs.RecordLaws.{went-on}
 use Rattle.codes.specs.Tables.{table-at, table-past}
 use Rattle.quasi_cyclic.specs.Entries.{line-row, line-of, entry-fits, first-bad-entry}
 use Rattle.quasi_cyclic.specs.EntryLaws.{Sizes, sizes, whole-line, line-length}
 use Rattle.quasi_cyclic.specs.Lines.{Line}
 use Rattle.quasi_cyclic.specs.declared.circulant.QuasiCyclic.{QuasiCyclic}
-
-went-on : (b : Bool) (i : ℕ) (o : Option ℕ) → isSome (cond b o (Some i)) ≡ false → (b ≡ true) × (isSome o ≡ false)
-went-on true i o e = (refl, e)
-went-on false i o e = absurd (true≢false e)
 
 -- entries without a bad one are all in range
 all-right : (z i : ℕ) (es : List ℤ) → isSome (first-bad-entry z i es) ≡ false → (k : ℕ) → k < length es → entry-fits z (getD es k (pos 0)) ≡ true

@@ -1,4 +1,4 @@
-use Prim.Native.Nat.{ℕ, _+_, _-_, _/_, _≤_}
+use Prim.Native.Nat.{ℕ, _+_, _-_, _/_}
 use native.Mathlib.Omega.{arith}
 use Rattle.codes.specs.RecordLaws.{sizes, listed-rising, rows-rise}
 use Rattle.codes.proofs.Segments as segments
