@@ -270,6 +270,21 @@ def code_edges():
         f"code listed 1 512 0:{'9' * 30000}",
         f"code circulant 1 1 1 -{'0' * 30000}1",
         "rows 0",
+        "# policies",
+        "policy first",
+        "policy heaviest",
+        "policy component first",
+        " policy\tcomponent  heaviest \r",
+        "policy",
+        "policy component",
+        "policy component component",
+        "policy component component first",
+        "policy first first",
+        "policy first heaviest",
+        "policy component first first",
+        "policy heavy",
+        "policy First",
+        "policies first",
     ]]
 
 
@@ -348,6 +363,8 @@ def good_line(rng):
         return f"write {number(rng)} {number(rng)} {hex_word(rng, 64)}"
     if kind == 5:
         return f"figure {number(rng)} {number(rng)}"
+    if kind == 6 and rng.randrange(4) == 0:
+        return "policy " + " ".join(rng.choices(["first", "heaviest", "component"], k=rng.randrange(1, 4)))
     if kind < 8:
         return f"code {pile_words(rng)}"
     return f"row {size(rng, rng.randrange(8))}"

@@ -16,6 +16,7 @@ CELL = 64
 BLOCKS = 1 << 12
 NUMBERS = 1 << 20
 SHOWN = 60
+POLICIES = [(b"first",), (b"heaviest",), (b"component", b"first"), (b"component", b"heaviest")]
 ENTRY = re.compile(rb"-?[0-9]+")
 
 
@@ -151,10 +152,10 @@ def pile(words):
 
 
 class Panel:
-    """What the program keeps from call to call: the code in hand."""
+    """What the program keeps from call to call: the code in hand, and the policy."""
 
     def __init__(self):
-        self.code = None
+        self.code, self.policy = None, POLICIES[0]
         # the calls, by their word: how many more words each takes, and its answer
         self.calls = {
             b"read": (range(1, 2), read),
@@ -162,6 +163,7 @@ class Panel:
             b"figure": (range(2, 3), figure),
             b"code": (range(1, 1 << 32), self.make),
             b"row": (range(1, 2), self.row),
+            b"policy": (range(1, 3), self.choose),
         }
 
     def make(self, *words):
@@ -178,6 +180,12 @@ class Panel:
         if self.code is None:
             return "no code in hand"
         return " ".join(map(str, self.code.rows[r] if r < len(self.code.rows) else []))
+
+    def choose(self, *words):
+        if words not in POLICIES:
+            raise NotUnderstood
+        self.policy = words
+        return "granted"
 
     def call(self, words):
         counts, answer = self.calls.get(words[0], (range(0), None))

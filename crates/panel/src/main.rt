@@ -1,6 +1,8 @@
 // The panel's program: reads a script from standard input, and prints the answer to each call.
 use piles::Pile;
+use piles::PolicyName;
 use piles::read_pile;
+use piles::read_policy;
 use piles::read_row;
 use piles::take_code;
 use piles::tell_row;
@@ -40,18 +42,36 @@ fn answer_row(
     }
 }
 
-// The answer to line `k`, with a code in hand or none; none where the line is passed over.
+// policy first · policy heaviest · policy component first · policy component heaviest
+fn answer_policy(
+    heap: Global,
+    line: &[u8],
+    policy: &mut PolicyName,
+) -> Result<Option<String>, AllocError> {
+    match read_policy(line) {
+        Some(name) => {
+            *policy = name;
+            Ok(Some(String::from_str(heap, "policy granted")?))
+        }
+        None => Ok(None),
+    }
+}
+
+// The answer to line `k`, with a policy in hand, and a code or none; none where the line is passed over.
 fn answer(
     heap: Global,
     k: u64,
     line: &[u8],
     hand: &mut Option<Pile>,
+    policy: &mut PolicyName,
 ) -> Result<Option<String>, AllocError> {
     let (word, rest) = split_word(line);
     let told = if is_word(word, "code") {
         answer_code(heap, rest, hand)?
     } else if is_word(word, "row") {
         answer_row(heap, rest, hand)?
+    } else if is_word(word, "policy") {
+        answer_policy(heap, rest, policy)?
     } else {
         return answer_line(heap, k, line);
     };
@@ -68,6 +88,7 @@ fn main(rt: LibcRuntime) -> io::Result<()> {
     // One buffer holds each line in turn.
     let mut line = Vec::new(heap);
     let mut hand = None;
+    let mut policy = PolicyName::First;
     for k in 1..u64::MAX {
         line.clear();
         if input.read_until(b'\n', &mut line)? == 0 {
@@ -76,7 +97,7 @@ fn main(rt: LibcRuntime) -> io::Result<()> {
         if let Some(b'\n') = line.last() {
             line.pop();
         }
-        if let Some(told) = answer(heap, k, line.as_slice(), &mut hand)? {
+        if let Some(told) = answer(heap, k, line.as_slice(), &mut hand, &mut policy)? {
             output.write_all(told.as_bytes())?;
             output.write_all(b"\n")?;
         }
