@@ -4,6 +4,8 @@
 --   use-of        what a row is used for
 --   line, lines   row q, and all rows, in the words and the right sides
 --   view          the state
+--   bare          the state without a policy's
+--   with-policy   a state with this as the policy's
 use mathlib.Core.Bool.{Bool, true, false}
 use mathlib.Core.List.{List, map}
 use Prim.Native.Nat.{ℕ}
@@ -44,4 +46,17 @@ view K ws ss w p = record {
   free = listed (w .free);
   additions = w .additions;
   policy = p;
+}
+
+abbrev pub bare : {S : Type 0} → Kind S → List ℕ → List S → Work → State S (Unit {0})
+bare K ws ss w = view K ws ss w tt
+
+abbrev pub with-policy : {S P Q : Type 0} → Q → State S P → State S Q
+with-policy q s = record {
+  rows = s .rows;
+  active = s .active;
+  pivots = s .pivots;
+  free = s .free;
+  additions = s .additions;
+  policy = q;
 }

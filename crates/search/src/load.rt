@@ -1,14 +1,14 @@
 // Loading: each row's missing columns and the sum of its received symbols, and what is kept beside the rows.
 ghost use mathlib.Core.Path.{_≡_};
 ghost use Prim.Native.Nat.{ℕ, _*_, _≤_, _<_};
-ghost use lib.ListN.{length, take};
-ghost use Rattle.codes.specs.Matrix.{height};
+ghost use lib.ListN.{length, getD, take};
+ghost use Rattle.codes.specs.Matrix.{height, weight, row-at};
 ghost use Rattle.method.specs.Method.{missing, start};
 ghost use Rattle.policies.specs.Shown.{shown};
-ghost use Rattle.search.specs.Loads.{Read, Loaded, singles};
+ghost use Rattle.search.specs.Loads.{Read, Loaded, singles, Begun};
 ghost use Rattle.search.specs.Searches.{marks-in};
 ghost use Rattle.search.specs.Steps.{Going};
-ghost use Rattle.search.specs.View.{view};
+ghost use Rattle.search.specs.View.{bare};
 use crate::tally::Tally;
 use crate::trail::Trail;
 use crate::uses::Uses;
@@ -17,6 +17,19 @@ use codes::Code;
 use policies::Columns;
 use symbols::Symbol;
 use symbols::sum_at;
+
+// Column i of row r.
+fn column_at<C: Code>(code: &C, r: usize, i: usize) -> usize
+    requires { ⌜ i < weight (C·Rows .matrix (now code)) r ⌝ }
+    ensures is { λ c. ⌜ c ≡ getD (row-at (C·Rows .matrix (now (code .entry))) r) i 0 ⌝ }
+    ensures low { λ c. ⌜ c < C·Rows .matrix (now (code .entry)) .width ⌝ }
+    ensures narrow { λ c. ⌜ c < 512 ⌝ }
+{
+    match code.column(r, i) {
+        Some(c) => c,
+        None => 0,
+    }
+}
 
 // Reads row r: its missing columns as a set, the sum of its received symbols, and how many columns are missing.
 fn read_row<S: Symbol, C: Code>(
@@ -33,14 +46,13 @@ fn read_row<S: Symbol, C: Code>(
     let mut got = 0;
     let mut lost = 0;
     for i in 0..code.weight(r) {
-        if let Some(c) = code.column(r, i) {
-            if received[c] {
-                heard[got] = c as u16;
-                got += 1;
-            } else {
-                bits::put(&mut line, c);
-                lost += 1;
-            }
+        let c = column_at(code, r, i);
+        if received[c] {
+            heard[got] = c as u16;
+            got += 1;
+        } else {
+            bits::put(&mut line, c);
+            lost += 1;
         }
     }
     (line, sum_at(table, &heard[0..got]), lost)
@@ -97,40 +109,29 @@ fn lone_rows(m: usize, counts: &[u16; 256]) -> Columns
     set
 }
 
-// Loads the rows and begins: every missing column is active, and no row is used.
-pub(crate) fn load<S: Symbol, C: Code, P>(
-    code: &C,
-    table: &[S],
-    received: &[bool; 512],
-    words: &mut [u64],
-    sides: &mut [S],
-) -> Work
+// Nothing done yet: the missing places below n are active, and m rows are unused.
+fn begin(n: usize, m: usize, received: &[bool; 512], counts: [u16; 256]) -> Work
+    requires { ⌜ n ≤ 512 ⌝ ∗ ⌜ m ≤ 256 ⌝ }
+    ensures { λ w. ⌜ Begun n m (now (received .entry)) counts w ⌝ }
+{
+    Work {
+        active: missing_below(n, received),
+        uses: Uses { unused: Columns::all(m), columns: [0; 256] },
+        tally: Tally { counts, ready: lone_rows(m, &counts) },
+        pivots: Trail { columns: [0; 512], len: 0 },
+        free: Trail { columns: [0; 512], len: 0 },
+        additions: 0,
+    }
+}
+
+// Loads the rows and begins.
+pub(crate) fn load<S: Symbol, C: Code>(code: &C, table: &[S], received: &[bool; 512], words: &mut [u64], sides: &mut [S]) -> Work
     requires wide { ⌜ length (now table) ≡ C·Rows .matrix (now code) .width ⌝ }
     requires high { ⌜ length (now sides) ≡ height (C·Rows .matrix (now code)) ⌝ }
     requires within { ⌜ length (now words) ≡ 8 * length (now sides) ⌝ }
-    ensures state { λ w. ⌜ ((p : P) → view (S·Symbol .kind) (now (words .exit)) (now (sides .exit)) w p ≡ start (S·Symbol .kind) (C·Rows .matrix (now (code .entry))) (marks-in (C·Rows .matrix (now (code .entry))) (now (received .entry))) (now (table .entry)) p) ⌝ }
+    ensures state { λ w. ⌜ bare (S·Symbol .kind) (now (words .exit)) (now (sides .exit)) w ≡ start (S·Symbol .kind) (C·Rows .matrix (now (code .entry))) (marks-in (C·Rows .matrix (now (code .entry))) (now (received .entry))) (now (table .entry)) tt ⌝ }
     ensures going { λ w. ⌜ Going (S·Symbol .kind) (C·Rows .matrix (now (code .entry)) .width) (now (words .exit)) (now (sides .exit)) w ⌝ }
 {
     let counts = load_rows(code, table, received, words, sides);
-    let m = sides.len();
-    Work {
-        active: missing_below(table.len(), received),
-        uses: Uses {
-            unused: Columns::all(m),
-            columns: [0; 256],
-        },
-        tally: Tally {
-            counts,
-            ready: lone_rows(m, &counts),
-        },
-        pivots: Trail {
-            columns: [0; 512],
-            len: 0,
-        },
-        free: Trail {
-            columns: [0; 512],
-            len: 0,
-        },
-        additions: 0,
-    }
+    begin(table.len(), sides.len(), received, counts)
 }

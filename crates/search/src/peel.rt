@@ -1,9 +1,10 @@
 // Peeling: each row with just one active column is used for it; where there is none, the policy names a pivot.
 ghost use mathlib.Core.Path.{_≡_};
-ghost use mathlib.Core.Bool.{true};
+ghost use mathlib.Core.Bool.{true, _&&_};
 ghost use mathlib.Core.List.{map, [], _∷_, _++_};
-ghost use Prim.Native.Nat.{ℕ, _+_, _*_, _≤_, _<_};
-ghost use lib.ListN.{length, getD};
+ghost use Prim.Native.Nat.{ℕ, _+_, _-_, _≤_, _<_};
+ghost use lib.Dec.{eqb};
+ghost use lib.ListN.{length, getD, set};
 ghost use Rattle.std.specs.Iters.{counting};
 ghost use Rattle.std.specs.Orderings.{When};
 ghost use Rattle.std.specs.declared.option.Option.the-variants.{Some};
@@ -13,7 +14,7 @@ ghost use Rattle.method.specs.Method.{spend, named, steps};
 ghost use Rattle.policies.specs.Shown.{marks-of, shown};
 ghost use Rattle.search.specs.Rows.{holding};
 ghost use Rattle.search.specs.Steps.{Sized, Room, Going, Ready, Lowered, Moved, Ended};
-ghost use Rattle.search.specs.View.{listed, lines, view};
+ghost use Rattle.search.specs.View.{listed, lines, view, bare};
 use crate::rows::add_to_each;
 use crate::rows::holders;
 use crate::tally::Tally;
@@ -37,6 +38,20 @@ impl Trail {
 }
 
 impl Tally {
+    // Row q has one active column fewer.
+    fn lower_one(&mut self, q: usize, unused: &Columns)
+        requires { ⌜ q < 256 ⌝ ∗ ⌜ 0 < getD (now self .counts) q 0 ⌝ }
+        ensures counts { λ _. ⌜ now (self .exit) .counts ≡ set (now (self .entry) .counts) q (getD (now (self .entry) .counts) q 0 - 1) ⌝ }
+        ensures ready { λ _. ⌜ shown (now (self .exit) .ready) ≡ set (shown (now (self .entry) .ready)) q (has (shown (now (unused .entry))) q && eqb (getD (now (self .entry) .counts) q 0 - 1) 1) ⌝ }
+    {
+        self.counts[q] -= 1;
+        if unused.has(q) && self.counts[q] == 1 {
+            self.ready.put(q);
+        } else {
+            self.ready.leave(q);
+        }
+    }
+
     // Each of these rows has one active column fewer.
     pub(crate) fn lower(&mut self, held: &Columns, unused: &Columns)
         requires few { ⌜ now held .width ≤ 256 ⌝ }
@@ -47,12 +62,7 @@ impl Tally {
         let mut left = *held;
         while let Some(q) = left.least() {
             left.leave(q);
-            self.counts[q] -= 1;
-            if self.counts[q] == 1 && unused.has(q) {
-                self.ready.put(q);
-            } else {
-                self.ready.leave(q);
-            }
+            self.lower_one(q, unused);
         }
     }
 }
@@ -75,7 +85,7 @@ fn next_ready<S: Symbol>(words: &[u64], sides: &[S], work: &Work) -> Option<(usi
 }
 
 // Row r is used for column c, and added to every other row that holds it.
-pub(crate) fn use_row<S: Symbol, P>(
+pub(crate) fn use_row<S: Symbol>(
     words: &mut [u64],
     sides: &mut [S],
     work: &mut Work,
@@ -91,7 +101,7 @@ pub(crate) fn use_row<S: Symbol, P>(
     ensures sized { λ _. ⌜ Sized (now (work .entry) .active .width) (now (words .exit)) (now (sides .exit)) (now (work .exit)) ⌝ }
     ensures same { λ _. ⌜ (now (work .exit) .tally ≡ now (work .entry) .tally) × (now (work .exit) .pivots ≡ now (work .entry) .pivots) × (now (work .exit) .free ≡ now (work .entry) .free) ⌝ }
     ensures few { λ _. ⌜ now (work .exit) .additions ≤ now (work .entry) .additions + 256 ⌝ }
-    ensures state { λ _. ⌜ ((p : P) → view (S·Symbol .kind) (now (words .exit)) (now (sides .exit)) (now (work .exit)) p ≡ spend (S·Symbol .kind) r c (view (S·Symbol .kind) (now (words .entry)) (now (sides .entry)) (now (work .entry)) p)) ⌝ }
+    ensures state { λ _. ⌜ bare (S·Symbol .kind) (now (words .exit)) (now (sides .exit)) (now (work .exit)) ≡ spend (S·Symbol .kind) r c (bare (S·Symbol .kind) (now (words .entry)) (now (sides .entry)) (now (work .entry))) ⌝ }
 {
     let mut others = *held;
     others.leave(r);
@@ -102,24 +112,24 @@ pub(crate) fn use_row<S: Symbol, P>(
 }
 
 // The row r, ready for column c, is used for it.
-fn peel_row<S: Symbol, P>(words: &mut [u64], sides: &mut [S], work: &mut Work, r: usize, c: usize)
+fn peel_row<S: Symbol>(words: &mut [u64], sides: &mut [S], work: &mut Work, r: usize, c: usize)
     requires going { ⌜ Going (S·Symbol .kind) (now work .active .width) (now words) (now sides) (now work) ⌝ }
     requires ready { ⌜ Ready (S·Symbol .kind) (shown (now work .active)) (lines (S·Symbol .kind) (now work .active .width) (now words) (now sides) (now work .uses)) (Some (r, c)) ⌝ }
     ensures going { λ _. ⌜ Going (S·Symbol .kind) (now (work .entry) .active .width) (now (words .exit)) (now (sides .exit)) (now (work .exit)) ⌝ }
-    ensures state { λ _. ⌜ ((p : P) → view (S·Symbol .kind) (now (words .exit)) (now (sides .exit)) (now (work .exit)) p ≡ spend (S·Symbol .kind) r c (view (S·Symbol .kind) (now (words .entry)) (now (sides .entry)) (now (work .entry)) p)) ⌝ }
+    ensures state { λ _. ⌜ bare (S·Symbol .kind) (now (words .exit)) (now (sides .exit)) (now (work .exit)) ≡ spend (S·Symbol .kind) r c (bare (S·Symbol .kind) (now (words .entry)) (now (sides .entry)) (now (work .entry))) ⌝ }
 {
     let held = holders(words, sides.len(), c);
-    use_row::<S, P>(words, sides, work, &held, r, c);
+    use_row(words, sides, work, &held, r, c);
     let unused = work.uses.unused;
     work.tally.lower(&held, &unused);
 }
 
 // Column c becomes a pivot.
-fn put_pivot<S: Symbol, P>(words: &[u64], sides: &[S], work: &mut Work, c: usize)
+fn put_pivot<S: Symbol>(words: &[u64], sides: &[S], work: &mut Work, c: usize)
     requires going { ⌜ Going (S·Symbol .kind) (now work .active .width) (now words) (now sides) (now work) ⌝ }
     requires active { ⌜ has (shown (now work .active)) c ≡ true ⌝ }
     ensures going { λ _. ⌜ Going (S·Symbol .kind) (now (work .entry) .active .width) (now (words .entry)) (now (sides .entry)) (now (work .exit)) ⌝ }
-    ensures state { λ _. ⌜ ((p q : P) → view (S·Symbol .kind) (now (words .entry)) (now (sides .entry)) (now (work .exit)) q ≡ named (Some c) q (view (S·Symbol .kind) (now (words .entry)) (now (sides .entry)) (now (work .entry)) p)) ⌝ }
+    ensures state { λ _. ⌜ bare (S·Symbol .kind) (now (words .entry)) (now (sides .entry)) (now (work .exit)) ≡ named (Some c) tt (bare (S·Symbol .kind) (now (words .entry)) (now (sides .entry)) (now (work .entry))) ⌝ }
 {
     let held = holders(words, sides.len(), c);
     let unused = work.uses.unused;
@@ -142,7 +152,7 @@ fn advance<S: Symbol, C: Code, P: Policy>(
 {
     match next_ready(words, sides, work) {
         Some((r, c)) => {
-            peel_row::<S, P>(words, sides, work, r, c);
+            peel_row(words, sides, work, r, c);
             true
         }
         None => {
@@ -151,7 +161,7 @@ fn advance<S: Symbol, C: Code, P: Policy>(
             }
             match policy.name(code, &work.active, &work.uses.unused) {
                 Some(c) => {
-                    put_pivot::<S, P>(words, sides, work, c);
+                    put_pivot(words, sides, work, c);
                     true
                 }
                 None => false,

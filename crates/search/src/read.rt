@@ -2,14 +2,14 @@
 ghost use mathlib.Core.Path.{_≡_};
 ghost use mathlib.Core.List.{List};
 ghost use Prim.Native.Nat.{ℕ, _≤_, _<_};
-ghost use lib.ListN.{length, getD};
+ghost use lib.ListN.{getD};
 ghost use Rattle.std.specs.Options.{isSome};
 ghost use Rattle.std.specs.declared.option.Option.the-variants.{None};
 ghost use Rattle.method.specs.Sets.{lowest};
 ghost use Rattle.method.specs.Method.{clash};
 ghost use Rattle.search.specs.Found.{symbol-at, wiped};
-ghost use Rattle.search.specs.Places.{Place};
-ghost use Rattle.search.specs.View.{lines};
+ghost use Rattle.search.specs.Places.{Placed};
+ghost use Rattle.search.specs.View.{lines, use-of};
 use crate::answer::Report;
 use crate::found::Found;
 use crate::uses::Uses;
@@ -27,20 +27,45 @@ pub(crate) fn clashes<S: Symbol>(sides: &[S], uses: &Uses) -> bool
     false
 }
 
+impl Uses {
+    // The column that row r is used for.
+    fn column_of(&self, r: usize) -> Option<usize>
+        requires { ⌜ r < 256 ⌝ }
+        ensures { λ c. ⌜ c ≡ use-of (now (self .entry)) r ⌝ }
+    {
+        if self.unused.has(r) {
+            None
+        } else {
+            Some(self.columns[r] as usize)
+        }
+    }
+}
+
 // For each column the lowest row below m that is used for it.
 pub(crate) fn places(uses: &Uses, m: usize) -> [Option<u8>; 512]
     requires { ⌜ m ≤ 256 ⌝ }
-    ensures each { λ rows. ⌜ length rows ≡ 512 ⌝ }
-    ensures places { λ rows. ⌜ ((c : ℕ) → c < 512 → Place (now (uses .entry)) m c (getD rows c None)) ⌝ }
+    ensures { λ rows. ⌜ Placed (now (uses .entry)) 0 m rows ⌝ }
 {
     let mut rows = [None; 512];
-    for r in 0..m {
-        let c = uses.columns[r] as usize;
-        if !uses.unused.has(r) && c < 512 && rows[c].is_none() {
-            rows[c] = Some(r as u8);
+    for r in (0..m).rev() {
+        if let Some(c) = uses.column_of(r) {
+            if c < 512 {
+                rows[c] = Some(r as u8);
+            }
         }
     }
     rows
+}
+
+// The right side of row r; zero past the end.
+fn side_at<S: Symbol>(sides: &[S], r: usize) -> S
+    ensures { λ s. ⌜ s ≡ getD (now (sides .entry)) r (S·Symbol .kind .zero) ⌝ }
+{
+    if r < sides.len() {
+        sides[r]
+    } else {
+        S::zero()
+    }
 }
 
 impl Found {
@@ -51,19 +76,28 @@ impl Found {
         self.report
     }
 
+    // The row used for column c.
+    fn row_of(&self, c: usize) -> Option<usize>
+        ensures { λ r. ⌜ r ≡ getD (now (self .entry) .rows) c None ⌝ }
+    {
+        if c >= 512 {
+            return None;
+        }
+        let row = self.rows[c];
+        match row {
+            Some(r) => Some(r as usize),
+            None => None,
+        }
+    }
+
     // The symbol of column c in the right sides that the search left; zero where no row is used for it.
     pub fn symbol<S: Symbol>(&self, sides: &[S], c: usize) -> S
         ensures { λ r. ⌜ r ≡ symbol-at (S·Symbol .kind) (now (self .entry)) (now (sides .entry)) c ⌝ }
     {
-        if c < 512 {
-            if let Some(r) = self.rows[c] {
-                let r = r as usize;
-                if r < sides.len() {
-                    return sides[r];
-                }
-            }
+        match self.row_of(c) {
+            Some(r) => side_at(sides, r),
+            None => S::zero(),
         }
-        S::zero()
     }
 }
 

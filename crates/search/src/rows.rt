@@ -3,8 +3,9 @@ ghost use mathlib.Core.Path.{_≡_};
 ghost use mathlib.Core.Bool.{false};
 ghost use mathlib.Core.List.{map};
 ghost use Prim.Native.Nat.{_*_, _≤_, _<_};
-ghost use lib.ListN.{length};
+ghost use lib.ListN.{length, getD, set};
 ghost use Rattle.std.specs.Iters.{counting};
+ghost use Rattle.bits.specs.Sets.{xors, row, put-row};
 ghost use Rattle.method.specs.Sets.{has, count};
 ghost use Rattle.policies.specs.Shown.{shown};
 ghost use Rattle.search.specs.Rows.{holding, Added};
@@ -23,6 +24,16 @@ pub(crate) fn holders(words: &[u64], m: usize, c: usize) -> Columns
         }
     }
     held
+}
+
+// Adds a set and a symbol to row q.
+fn add_line<S: Symbol>(words: &mut [u64], sides: &mut [S], q: usize, line: &bits::Set, side: &S)
+    requires { ⌜ q < length (now sides) ⌝ }
+    ensures words { λ _. ⌜ now (words .exit) ≡ put-row (now (words .entry)) q (xors (row (now (words .entry)) q) (now (line .entry))) ⌝ }
+    ensures sides { λ _. ⌜ ((d : S) → now (sides .exit) ≡ set (now (sides .entry)) q (kind .sum (getD (now (sides .entry)) q d) (now (side .entry)))) ⌝ }
+{
+    bits::add_line(words, q, line);
+    sides[q].add(side);
 }
 
 // Adds row r to each row of a set that it is not in, and tells how many they are.
@@ -44,8 +55,7 @@ pub(crate) fn add_to_each<S: Symbol>(
     let mut count = 0;
     while let Some(q) = left.least() {
         left.leave(q);
-        bits::add_line(words, q, &line);
-        sides[q].add(&side);
+        add_line(words, sides, q, &line, &side);
         count += 1;
     }
     count

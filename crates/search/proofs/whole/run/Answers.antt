@@ -1,0 +1,1 @@
+use Rattle.search.proofs.whole.run.Needs as need
