@@ -64,11 +64,11 @@ module _ {S : Type 0} (K : Kind S) (k : Matrix) (ok : Lawful k) (received : List
   rows-are =
       let long = length-lines K (k .width) ws ss (w .uses) in
       ext-getD (blank K) _ _ (long ∙ high ∙ sym (length-map (k .rows) (start-row K (k .width) (places-in k received) syms))) (λ q h.
-          let l : q < length ss = omega arith in
-          let read = loaded .each q l in
-          line-at K (k .width) ws ss (w .uses) q l
-          ∙ (λ i. record { cols = read .cols i; right = read .right i; used = used-if (all-unused q l i) (getD (w .uses .columns) q 0) })
-          ∙ sym (getD-map (start-row K (k .width) (places-in k received) syms) (k .rows) q [] (blank K) (omega (arith, high))))
+      let l : q < length ss = omega arith in
+      let read = loaded .each q l in
+      line-at K (k .width) ws ss (w .uses) q l
+      ∙ (λ i. record { cols = read .cols i; right = read .right i; used = used-if (all-unused q l i) (getD (w .uses .columns) q 0) })
+      ∙ sym (getD-map (start-row K (k .width) (places-in k received) syms) (k .rows) q [] (blank K) (omega (arith, high))))
 
   lines-are : lines K (w .active .width) ws ss (w .uses) ≡ start-rows K k (places-in k received) syms
   lines-are = ap (λ m. lines K m ws ss (w .uses)) active-width ∙ rows-are
@@ -85,7 +85,7 @@ module _ {S : Type 0} (K : Kind S) (k : Matrix) (ok : Lawful k) (received : List
       let xs = row-at k q in
       let miss = missing (places-in k received) in
       let cols : row-of K (lines K (w .active .width) ws ss (w .uses)) q .cols ≡ marks (k .width) (marked miss xs) =
-          ap (λ rs. row-of K rs q .cols) (ap (λ m. lines K m ws ss (w .uses)) active-width) ∙ ap (λ (x : Row S). x .cols) (line-at K (k .width) ws ss (w .uses) q l) ∙ loaded .each q l .cols in
+      ap (λ rs. row-of K rs q .cols) (ap (λ m. lines K m ws ss (w .uses)) active-width) ∙ ap (λ (x : Row S). x .cols) (line-at K (k .width) ws ss (w .uses) q l) ∙ loaded .each q l .cols in
       ap (λ cs. getD cs q 0) (begun .counted) ∙ loaded .each q l .many
       ∙ sym (ap₂ (λ a b. count (meet a b)) cols (begun .active) ∙ count-same _ _ (meet-marked (k .width) miss xs)
       ∙ count-marks (k .width) (marked miss xs) (marked-lawful (k .width) miss xs (lawful-row (k .width) (k .rows) (ok .each) q)))
@@ -119,6 +119,6 @@ module _ {S : Type 0} (K : Kind S) (k : Matrix) (ok : Lawful k) (received : List
       readies : shown (w .tally .ready) ≡ map (ready (shown (w .active))) rows
       readies =
           begun .ready ∙ ext-getD false _ _ (length-map-counting (single counts) 0 (length ss) ∙ sym (length-map rows (ready (shown (w .active))) ∙ long)) (λ q h.
-              let l : q < length ss = omega (arith, length-map-counting (single counts) 0 (length ss)) in
-              getD-map-counting (single counts) 0 (length ss) q q false l (omega arith) ∙ ready-is q l
-              ∙ sym (getD-map (ready (shown (w .active))) rows q (blank K) false (omega (arith, long))))
+          let l : q < length ss = omega (arith, length-map-counting (single counts) 0 (length ss)) in
+          getD-map-counting (single counts) 0 (length ss) q q false l (omega arith) ∙ ready-is q l
+          ∙ sym (getD-map (ready (shown (w .active))) rows q (blank K) false (omega (arith, long))))

@@ -61,6 +61,6 @@ pub lacking-missing : (n : ℕ) (received : List Bool) → n ≤ length received
 lacking-missing n received l =
     let e : length (missing (take n received)) ≡ n = length-map (take n received) not ∙ length-take-le n received l in
     ext-getD false _ _ (length-map-counting (lacking received) 0 n ∙ sym e) (λ c h.
-        let lt : c < n = omega (arith, length-map-counting (lacking received) 0 n) in
-        getD-map-counting (lacking received) 0 n c c false lt (omega arith)
-        ∙ sym (has-missing (take n received) c (omega (arith, length-take-le n received l)) ∙ ap not (getD-take n received c false lt)))
+    let lt : c < n = omega (arith, length-map-counting (lacking received) 0 n) in
+    getD-map-counting (lacking received) 0 n c c false lt (omega arith)
+    ∙ sym (has-missing (take n received) c (omega (arith, length-take-le n received l)) ∙ ap not (getD-take n received c false lt)))

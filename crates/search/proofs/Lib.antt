@@ -12,3 +12,6 @@ pub mod Placing  -- the row used for each column
 pub mod Loading  -- a row of a code read column by column
 pub mod Filling  -- a table filled place by place
 pub mod Beginning  -- a search whose rows are loaded: the method's start
+pub mod Ending  -- the state at the end of a search, and what is told of it
+pub mod Memory  -- a search in memory that is longer than it needs
+pub mod Telling  -- what a whole search leaves, and what its answer tells

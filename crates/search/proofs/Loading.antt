@@ -156,8 +156,8 @@ reading-none got cs heard short long line eight none = record {
 pub reading-marks : (n : ℕ) (line xs : List ℕ) → ((d : ℕ) → holds line d ≡ member d xs) → marks-of n line ≡ marks n xs
 reading-marks n line xs held =
     ext-getD false _ _ (length-marks n line ∙ sym (length-table n (λ c. member c xs))) (λ c h.
-        let l : c < n = omega (arith, length-marks n line) in
-        marks-at n line c false l ∙ held c ∙ sym (has-marks n xs c l))
+    let l : c < n = omega (arith, length-marks n line) in
+    marks-at n line c false l ∙ held c ∙ sym (has-marks n xs c l))
 
 pub reading-moved : {got : List Bool} {cs : List ℕ} {i : ℕ} {line line′ heard heard′ : List ℕ} {g g′ l l′ : ℕ} → line′ ≡ line → heard′ ≡ heard → g′ ≡ g → l′ ≡ l
     → Reading got cs i line heard g l → Reading got cs i line′ heard′ g′ l′
@@ -179,11 +179,11 @@ module _ {S : Type 0} (K : Kind S) (k : Matrix) (received : List Bool) (syms : L
     all = ap length e ∙ length-set counts i some ∙ h .all;
     each = below-more (λ q. Read K k received syms q (row ws′ q) (getD ss′ q (K .zero)) (getD counts′ q 0)) i
         (λ q l. read-moved
-            (ap (λ xs. row xs q) a ∙ row-put-other ws line i (read .eight) q (omega arith))
-            (ap (λ xs. getD xs q (K .zero)) b ∙ getD-set-other ss i q side (K .zero) (omega arith))
-            (ap (λ xs. getD xs q 0) e ∙ getD-set-other counts i q some 0 (omega arith)) (h .each q l))
+        (ap (λ xs. row xs q) a ∙ row-put-other ws line i (read .eight) q (omega arith))
+        (ap (λ xs. getD xs q (K .zero)) b ∙ getD-set-other ss i q side (K .zero) (omega arith))
+        (ap (λ xs. getD xs q 0) e ∙ getD-set-other counts i q some 0 (omega arith)) (h .each q l))
         (read-moved
-            (ap (λ xs. row xs i) a ∙ row-put-same ws line i (read .eight) long)
-            (ap (λ xs. getD xs i (K .zero)) b ∙ getD-set-same ss i side (K .zero) in′)
-            (ap (λ xs. getD xs i 0) e ∙ getD-set-same counts i some 0 (omega (arith, h .all))) read);
+        (ap (λ xs. row xs i) a ∙ row-put-same ws line i (read .eight) long)
+        (ap (λ xs. getD xs i (K .zero)) b ∙ getD-set-same ss i side (K .zero) in′)
+        (ap (λ xs. getD xs i 0) e ∙ getD-set-same counts i some 0 (omega (arith, h .all))) read);
   }

@@ -1,16 +1,16 @@
 -- The row used for each column, row by row from the highest.
 use mathlib.Core.Path.{_≡_, refl, sym, ap, subst, _∙_}
 use mathlib.Core.Bool.{Bool, true, false}
-use mathlib.Core.List.{List}
+use mathlib.Core.List.{List, [], _∷_, _++_}
 use mathlib.Core.Logic.{_⊎_, inl, inr, ⊎-elim}
-use Prim.Native.Nat.{ℕ, _+_, _-_, _≤_, _<_}
+use Prim.Native.Nat.{ℕ, zero, suc, _+_, _≤_, _<_}
 use native.Mathlib.Omega.{arith}
 use lib.Dec.{eqb}
 use lib.ListN.{length, getD, set, replicate, length-set}
 use lib.Seq.{getD-set-same, getD-set-other}
 use Rattle.std.specs.declared.option.Option.{Option}
 use Rattle.std.specs.declared.option.Option.the-variants.{Some, None}
-use Rattle.std.proofs.shelf.Lists.{getD-past, getD-replicate, length-replicate}
+use Rattle.std.proofs.shelf.Lists.{getD-replicate, getD-append-left}
 use Rattle.std.proofs.shelf.Tests.{cases-eq, eq-eqb, ne-eqb, cond-true, cond-false}
 use Rattle.symbols.specs.Kinds.{Kind}
 use Rattle.method.specs.Method.{Row, used-for, row-of, row-for, blank}
@@ -54,3 +54,35 @@ module _ (u : Uses) (r m : ℕ) where
         place c l (inr ne) =
             subst (Place u r m c) (sym (getD-set-other rows d c (Some r) None ne))
             (place-skip c (getD rows c None) (ap (used-for c) (sym e) ∙ ne-eqb d c (λ z. ne (sym z))) (h .each c l))
+
+-- the row used for c, as a walk from the lowest finds it
+module _ {S : Type 0} (K : Kind S) (c : ℕ) where
+  for-found : (rows : List (Row S)) (r : ℕ) → r < length rows → ((k : ℕ) → k < r → used-for c (row-of K rows k .used) ≡ false) → used-for c (row-of K rows r .used) ≡ true
+      → row-for K c rows ≡ row-of K rows r
+  for-found [] r l h e = absurd (omega arith)
+  for-found (q ∷ rows) zero l h e = cond-true _ _ _ e
+  for-found (q ∷ rows) (suc r) l h e = cond-false _ _ _ (h 0 (omega arith)) ∙ for-found rows r (omega arith) (λ k m. h (suc k) (omega arith)) e
+
+  for-missed : (rows : List (Row S)) → ((k : ℕ) → k < length rows → used-for c (row-of K rows k .used) ≡ false) → row-for K c rows ≡ blank K
+  for-missed [] h = refl
+  for-missed (q ∷ rows) h = cond-false _ _ _ (h 0 (omega arith)) ∙ for-missed rows (λ k m. h (suc k) (omega arith))
+
+  module _ (n : ℕ) (ws : List ℕ) (ss : List S) (u : Uses) where
+    uses-at : (q : ℕ) → q < length ss → used-for c (row-of K (lines K n ws ss u) q .used) ≡ uses-for u c q
+    uses-at q l = ap (λ (x : Row S). used-for c (x .used)) (line-at K n ws ss u q l)
+
+    -- its right side
+    pub place-right : (o : Option ℕ) → Place u 0 (length ss) c o → symbol-in K ss o ≡ row-for K c (lines K n ws ss u) .right
+    place-right None h =
+        let long = length-lines K n ws ss u in
+        sym (ap (λ (x : Row S). x .right) (for-missed (lines K n ws ss u) (λ k m. uses-at k (omega arith) ∙ h k (omega arith) (omega arith))))
+    place-right (Some r) h =
+        let long = length-lines K n ws ss u in
+        let low : r < length ss = h .1 in
+        sym (ap (λ (x : Row S). x .right)
+        (for-found (lines K n ws ss u) r (omega arith) (λ k m. uses-at k (omega arith) ∙ h .3 k (omega arith) m) (uses-at r low ∙ h .2) ∙ line-at K n ws ss u r low))
+
+  -- whatever lies behind the right sides
+  pub place-within : (ss rest : List S) (u : Uses) (o : Option ℕ) → Place u 0 (length ss) c o → symbol-in K (ss ++ rest) o ≡ symbol-in K ss o
+  place-within ss rest u None h = refl
+  place-within ss rest u (Some r) h = getD-append-left ss rest (K .zero) r (h .1)

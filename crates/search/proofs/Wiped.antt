@@ -1,13 +1,13 @@
 -- A list whose first elements become zero one after another.
 use mathlib.Core.Path.{_≡_, refl, sym, ap, _∙_}
-use mathlib.Core.List.{List, _++_}
+use mathlib.Core.List.{List, _++_, append-nil}
 use mathlib.Core.Logic.{_⊎_, inl, inr}
 use Prim.Native.Nat.{ℕ, _+_, _-_, _≤_, _<_, min}
 use native.Mathlib.Omega.{arith}
 use lib.ListN.{length, getD, set, drop, replicate, length-set, length-append, length-drop}
 use lib.Seq.{getD-set-same, getD-set-other}
 use borrow.Author.Count.{below-more}
-use Rattle.std.proofs.shelf.Lists.{ext-getD, getD-replicate, length-replicate, getD-append-left, getD-append-right, getD-drop}
+use Rattle.std.proofs.shelf.Lists.{ext-getD, getD-replicate, length-replicate, getD-append-left, getD-append-right, getD-drop, drop-all}
 use Rattle.std.proofs.shelf.Tests.{cases-lt}
 use Rattle.search.specs.Found.{wiped}
 
@@ -50,3 +50,6 @@ module _ {X : Type 0} (z : X) (xs : List X) where
 -- where there are m elements, as many become zero
 pub wiped-some : {X : Type 0} (z : X) (m : ℕ) (xs : List X) → m ≤ length xs → wiped z m xs ≡ replicate m z ++ drop m xs
 wiped-some z m xs l = ap (λ k. replicate k z ++ drop m xs) (omega arith)
+
+pub wiped-whole : {X : Type 0} (z : X) (m : ℕ) (xs : List X) → length xs ≡ m → wiped z m xs ≡ replicate m z
+wiped-whole z m xs e = wiped-some z m xs (omega arith) ∙ ap (λ ys. replicate m z ++ ys) (drop-all m xs (omega arith)) ∙ append-nil (replicate m z)

@@ -9,7 +9,7 @@
 use mathlib.Core.Path.{_≡_}
 use mathlib.Core.Logic.{_↔_}
 use mathlib.Core.Bool.{Bool, true, false, cond}
-use mathlib.Core.List.{List}
+use mathlib.Core.List.{List, _++_}
 use Prim.Native.Nat.{ℕ, _*_, _<_}
 use lib.ListN.{length, getD, take, drop, replicate}
 use Rattle.std.specs.declared.option.Option.{Option}
@@ -61,6 +61,11 @@ abbrev pub Left : {S : Type 0} → Kind S → List (Row S) → ℕ → List S �
 Left K rows m ss whole (Ok f) ss′ = ((c : ℕ) → c < 512 → symbol-at K f ss′ c ≡ row-for K c rows .right) × (drop m ss′ ≡ drop m ss)
 Left K rows m ss whole (Err e) ss′ = ss′ ≡ whole
 
+-- the same in memory of just the m right sides, whatever may lie behind them
+abbrev pub Stand : {S : Type 0} → Kind S → List (Row S) → ℕ → Result Found Unfound → List S → Type 0
+Stand {S} K rows m (Ok f) ss = (rest : List S) (c : ℕ) → c < 512 → symbol-at K f (ss ++ rest) c ≡ row-for K c rows .right
+Stand K rows m (Err e) ss = ss ≡ replicate m (K .zero)
+
 module _ {S P : Type 0} (K : Kind S) (choice : Matrix → Choice P) (k : Matrix) (received : List Bool) (syms : List S) (p : P) where
   -- the method's answer, and its last state
   abbrev pub outcome : Outcome S
@@ -74,7 +79,7 @@ module _ {S P : Type 0} (K : Kind S) (choice : Matrix → Choice P) (k : Matrix)
     pub answer : reported r ≡ told outcome
     pub policy : p′ ≡ end .policy
     pub words : ws ≡ replicate (8 * height k) 0
-    pub sides : Left K (end .rows) (height k) ss (replicate (height k) (K .zero)) r ss
+    pub sides : Stand K (end .rows) (height k) r ss
 
   module _ (ws : List ℕ) (ss : List S) where
     -- refused before it begins, nothing changes; else the method's answer, and memory of zeros

@@ -116,16 +116,34 @@ fn begin(n: usize, m: usize, received: &[bool; 512], counts: [u16; 256]) -> Work
 {
     Work {
         active: missing_below(n, received),
-        uses: Uses { unused: Columns::all(m), columns: [0; 256] },
-        tally: Tally { counts, ready: lone_rows(m, &counts) },
-        pivots: Trail { columns: [0; 512], len: 0 },
-        free: Trail { columns: [0; 512], len: 0 },
+        uses: Uses {
+            unused: Columns::all(m),
+            columns: [0; 256],
+        },
+        tally: Tally {
+            counts,
+            ready: lone_rows(m, &counts),
+        },
+        pivots: Trail {
+            columns: [0; 512],
+            len: 0,
+        },
+        free: Trail {
+            columns: [0; 512],
+            len: 0,
+        },
         additions: 0,
     }
 }
 
 // Loads the rows and begins.
-pub(crate) fn load<S: Symbol, C: Code>(code: &C, table: &[S], received: &[bool; 512], words: &mut [u64], sides: &mut [S]) -> Work
+pub(crate) fn load<S: Symbol, C: Code>(
+    code: &C,
+    table: &[S],
+    received: &[bool; 512],
+    words: &mut [u64],
+    sides: &mut [S],
+) -> Work
     requires wide { ⌜ length (now table) ≡ C·Rows .matrix (now code) .width ⌝ }
     requires high { ⌜ length (now sides) ≡ height (C·Rows .matrix (now code)) ⌝ }
     requires within { ⌜ length (now words) ≡ 8 * length (now sides) ⌝ }

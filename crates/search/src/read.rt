@@ -61,11 +61,7 @@ pub(crate) fn places(uses: &Uses, m: usize) -> [Option<u8>; 512]
 fn side_at<S: Symbol>(sides: &[S], r: usize) -> S
     ensures { λ s. ⌜ s ≡ getD (now (sides .entry)) r (S·Symbol .kind .zero) ⌝ }
 {
-    if r < sides.len() {
-        sides[r]
-    } else {
-        S::zero()
-    }
+    if r < sides.len() { sides[r] } else { S::zero() }
 }
 
 impl Found {

@@ -12,9 +12,10 @@ loop-r-holds c = built-none (c .args .m) (single (c .args .counts .now)) (shown 
 
 pub loop-r-again : need.loop-r-again
 loop-r-again c =
-    elim (c .if-counts-r-eq1 .came)
-    [ then-counts-r-eq1 w ↦ built-put (c .loop-r .inv) (c .loop-r-test .taken) (eq-eqb _ 1 (w .if-counts-r-eq1 .taken)) _ (ap shown (w .set-is) ∙ w .put .ensures)
-    | else-counts-r-eq1 w ↦ built-skip (c .loop-r .inv) (ne-eqb _ 1 (w .if-counts-r-eq1 .left)) _ (ap shown (w .set-is)) ]
+    elim (c .if-counts-r-eq1 .came) [
+      | then-counts-r-eq1 w ↦ built-put (c .loop-r .inv) (c .loop-r-test .taken) (eq-eqb _ 1 (w .if-counts-r-eq1 .taken)) _ (ap shown (w .set-is) ∙ w .put .ensures)
+      | else-counts-r-eq1 w ↦ built-skip (c .loop-r .inv) (ne-eqb _ 1 (w .if-counts-r-eq1 .left)) _ (ap shown (w .set-is))
+    ]
 
 pub returns : need.returns
 returns c = built-all (c .loop-r .inv) (omega arith)

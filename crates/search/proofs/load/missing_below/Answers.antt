@@ -11,9 +11,10 @@ loop-c-holds c = built-none (c .args .n) (lacking (c .args .received .now)) (sho
 
 pub loop-c-again : need.loop-c-again
 loop-c-again c =
-    elim (c .if-not-received-c .came)
-    [ then-not-received-c w ↦ built-put (c .loop-c .inv) (c .loop-c-test .taken) (ap not (w .if-not-received-c .taken)) _ (ap shown (w .set-is) ∙ w .put .ensures)
-    | else-not-received-c w ↦ built-skip (c .loop-c .inv) (ap not (w .if-not-received-c .left)) _ (ap shown (w .set-is)) ]
+    elim (c .if-not-received-c .came) [
+      | then-not-received-c w ↦ built-put (c .loop-c .inv) (c .loop-c-test .taken) (ap not (w .if-not-received-c .taken)) _ (ap shown (w .set-is) ∙ w .put .ensures)
+      | else-not-received-c w ↦ built-skip (c .loop-c .inv) (ap not (w .if-not-received-c .left)) _ (ap shown (w .set-is))
+    ]
 
 pub returns : need.returns
 returns c = built-all (c .loop-c .inv) (omega arith) ∙ lacking-missing (c .args .n) (c .args .received .now) (omega arith)

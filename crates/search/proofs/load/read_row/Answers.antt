@@ -37,14 +37,15 @@ loop-i-again g c =
     let wide : k .width ≤ length received = omega (arith, ok .few-columns) in
     let low : d < length got = omega (arith, length-take-le (k .width) received wide, e .low) in
     let same : has got d ≡ has received d = getD-take (k .width) received d false (e .low) in
-    elim (c .if-received-c .came)
-    [ then-received-c w ↦
-        reading-moved (w .line-is) (w .heard-is) (w .got-is) (w .lost-is)
-        (reading-got got cs i (c .loop-i .line) (c .loop-i .heard) (c .loop-i .got) (c .loop-i .lost) d (c .loop-i .inv) in′ (e .is) low (same ∙ w .if-received-c .taken))
-    | else-received-c w ↦
-        reading-moved (w .line-is) (w .heard-is) (w .got-is) (w .lost-is)
-        (reading-lost got cs i (c .loop-i .line) (c .loop-i .heard) (c .loop-i .got) (c .loop-i .lost) d (c .loop-i .inv) in′ (e .is) low (same ∙ w .if-received-c .left)
-            (w .put .last .words) (w .put .kept .words) (w .put .ensures) (e .narrow)) ]
+    elim (c .if-received-c .came) [
+      | then-received-c w ↦
+          reading-moved (w .line-is) (w .heard-is) (w .got-is) (w .lost-is)
+          (reading-got got cs i (c .loop-i .line) (c .loop-i .heard) (c .loop-i .got) (c .loop-i .lost) d (c .loop-i .inv) in′ (e .is) low (same ∙ w .if-received-c .taken))
+      | else-received-c w ↦
+          reading-moved (w .line-is) (w .heard-is) (w .got-is) (w .lost-is)
+          (reading-lost got cs i (c .loop-i .line) (c .loop-i .heard) (c .loop-i .got) (c .loop-i .lost) d (c .loop-i .inv) in′ (e .is) low (same ∙ w .if-received-c .left)
+          (w .put .last .words) (w .put .kept .words) (w .put .ensures) (e .narrow))
+    ]
 
 pub returns : need.returns
 returns g c =

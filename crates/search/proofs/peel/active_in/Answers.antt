@@ -10,4 +10,4 @@ returns c =
     let ws = c .args .words .now in
     let s = c .args .active .now in
     lowest-shared (row ws (c .args .r)) s (length-row ws (c .args .r)) (c .least .result)
-        (subst (λ xs. Least (holds xs) (c .least .result)) (c .shared .ensures ∙ ap (λ l. ands l (s .words)) (c .line-at .ensures)) (c .least .ensures))
+    (subst (λ xs. Least (holds xs) (c .least .result)) (c .shared .ensures ∙ ap (λ l. ands l (s .words)) (c .line-at .ensures)) (c .least .ensures))

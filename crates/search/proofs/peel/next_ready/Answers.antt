@@ -32,7 +32,7 @@ returns-in-Break-c g c =
     let is-ready = c .in-Continue-r .ensures tt in
     let low = lowest-some (ready (shown (w .active))) (blank K) rows r (lowest-ready K (c .pre .tallied) _ is-ready) .1 in
     absurd (some-part K (c .pre .tallied) r is-ready (meet (marks-of n (row ws r)) (shown (w .active)))
-        (ap (λ q. meet (q .cols) (shown (w .active))) (sym (line-at K n ws ss (w .uses) r (omega (arith, low, length-lines K n ws ss (w .uses)))))) (c .in-Break-c .ensures tt))
+    (ap (λ q. meet (q .cols) (shown (w .active))) (sym (line-at K n ws ss (w .uses) r (omega (arith, low, length-lines K n ws ss (w .uses)))))) (c .in-Break-c .ensures tt))
 
 pub returns : need.returns
 returns g c =
@@ -46,4 +46,4 @@ returns g c =
     let is-ready = c .in-Continue-r .ensures tt in
     let low = lowest-some (ready (shown (w .active))) (blank K) rows r (lowest-ready K (c .pre .tallied) _ is-ready) .1 in
     lone K (c .pre .tallied) r (c .in-Continue-c .c) is-ready (meet (marks-of n (row ws r)) (shown (w .active)))
-        (ap (λ q. meet (q .cols) (shown (w .active))) (sym (line-at K n ws ss (w .uses) r (omega (arith, low, length-lines K n ws ss (w .uses)))))) (c .in-Continue-c .ensures tt)
+    (ap (λ q. meet (q .cols) (shown (w .active))) (sym (line-at K n ws ss (w .uses) r (omega (arith, low, length-lines K n ws ss (w .uses)))))) (c .in-Continue-c .ensures tt)

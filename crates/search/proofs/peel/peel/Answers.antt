@@ -8,9 +8,10 @@ pub loop-again : need.loop-again
 loop-again g c =
     let K = g .S·Symbol .kind in
     let choice = g .P·Policy .choice (g .C·Rows .matrix (c .args .code .now)) in
-    let h = c .loop-test .ensures tt in
-    (h .going,
-    steps-again K choice (view K (c .loop .words) (c .loop .sides) (c .loop .work) (c .loop .policy)) _ (view K (c .args .words .now) (c .args .sides .now) (c .args .work .now) (c .args .policy .now)) (h .stepped) (c .loop .inv .1))
+    let h = c .loop-test .ensures tt in (
+      h .going,
+      steps-again K choice (view K (c .loop .words) (c .loop .sides) (c .loop .work) (c .loop .policy)) _ (view K (c .args .words .now) (c .args .sides .now) (c .args .work .now) (c .args .policy .now)) (h .stepped) (c .loop .inv .1),
+    )
 
 pub returns : need.returns
 returns g c =

@@ -15,7 +15,7 @@ Inv-loop g l =
     let choice = g .P·Policy .choice k in
     Going K (k .width) (l .words) (l .sides) (l .work)
     × ((j : ℕ) → steps K choice (j + count (shown (l .work .active))) (view K (l .words) (l .sides) (l .work) (l .policy))
-        ≡ steps K choice (j + count (shown (l .entry .work .active))) (view K (l .entry .words) (l .entry .sides) (l .entry .work) (l .entry .policy)))
+    ≡ steps K choice (j + count (shown (l .entry .work .active))) (view K (l .entry .words) (l .entry .sides) (l .entry .work) (l .entry .policy)))
 
 abbrev pub μ-loop : given.MeasureT-loop
 μ-loop g l = count (shown (l .work .active))

@@ -45,10 +45,10 @@ lower-requires g c κs =
       few = omega (arith, wide, c .pre .going .sized .few);
       width = ap (λ t. t .ready .width) tally ∙ length-ready K (c .pre .going .tallied) ∙ high ∙ sym wide;
       some = λ q h.
-        let low : q < length ss = omega (arith, shown-below held q h, wide) in
-        subst (λ t. 0 < getD (t .counts) q 0) (sym tally)
-        (some-count K (c .pre .going .tallied) q (c .args .c) (omega (arith, high))
-            (sym (held-at K n ws ss (w .uses) (shown held) (c .args .c) col (c .holders-held .ensures) q low) ∙ h) (c .pre .ready .is-active));
+          let low : q < length ss = omega (arith, shown-below held q h, wide) in
+          subst (λ t. 0 < getD (t .counts) q 0) (sym tally)
+          (some-count K (c .pre .going .tallied) q (c .args .c) (omega (arith, high))
+          (sym (held-at K n ws ss (w .uses) (shown held) (c .args .c) col (c .holders-held .ensures) q low) ∙ h) (c .pre .ready .is-active));
     }
 
 pub returns : need.returns
@@ -72,7 +72,7 @@ returns g c =
     let active-is = ap (λ s. s .active) (e .state) in
     let low : (q : ℕ) → q < length rows → q < length ss′ = λ q l. omega (arith, high′, ap length rows-are, use-length K rows (c .args .r) (c .args .c)) in
     let unuseds : (q : ℕ) → q < length rows → unused (row-of K (use-row K (c .args .r) (c .args .c) rows) q) ≡ has (shown (w′ .uses .unused)) q =
-        λ q l. ap (λ rs. unused (row-of K rs q)) (sym rows-are) ∙ unused-at K (w′ .active .width) ws′ ss′ (w′ .uses) q (low q l) in
+    λ q l. ap (λ rs. unused (row-of K rs q)) (sym rows-are) ∙ unused-at K (w′ .active .width) ws′ ss′ (w′ .uses) q (low q l) in
     record {
       going = record {
         sized = record { wide = e .sized .wide; high = e .sized .high; few = e .sized .few; within = e .sized .within };

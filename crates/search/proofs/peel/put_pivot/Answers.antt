@@ -31,9 +31,9 @@ lower-requires g c κs =
       few = omega (arith, wide, c .pre .going .sized .few);
       width = length-ready K (c .pre .going .tallied) ∙ high ∙ sym wide;
       some = λ q h.
-        let low : q < length ss = omega (arith, shown-below held q h, wide) in
-        some-count K (c .pre .going .tallied) q (c .args .c) (omega (arith, high))
-            (sym (held-at K n ws ss (w .uses) (shown held) (c .args .c) col (c .holders-held .ensures) q low) ∙ h) (c .pre .active);
+          let low : q < length ss = omega (arith, shown-below held q h, wide) in
+          some-count K (c .pre .going .tallied) q (c .args .c) (omega (arith, high))
+          (sym (held-at K n ws ss (w .uses) (shown held) (c .args .c) col (c .holders-held .ensures) q low) ∙ h) (c .pre .active);
     }
 
 pub push-requires : need.push-requires
@@ -61,7 +61,7 @@ returns g c =
         room = room-next w _ (c .pre .going .room) (fewer-active (shown (w .active)) (shown (c .leave .last .self)) (c .args .c) (c .leave .ensures) (c .pre .active))
             (omega (arith, c .push .ensures .len)) (omega arith)
             (subst (All (λ d. d < c .leave .last .self .width)) (sym (c .push .ensures .listed))
-                (all-push (λ d. d < c .leave .last .self .width) (listed (w .pivots)) (c .args .c) (subst (λ m. All (λ d. d < m) (listed (w .pivots))) (sym wide) (c .pre .going .room .low)) (omega (arith, wide))))
+            (all-push (λ d. d < c .leave .last .self .width) (listed (w .pivots)) (c .args .c) (subst (λ m. All (λ d. d < m) (listed (w .pivots))) (sym wide) (c .pre .going .room .low)) (omega (arith, wide))))
             refl;
         tallied = tallied-moved K same-rows (c .leave .ensures)
             (tallied-next K rows rows (shown (w .active)) (shown held) (shown (w .uses .unused)) (c .args .c) (w .tally) (c .lower .last .self) (c .pre .going .tallied) (c .lower .ensures)

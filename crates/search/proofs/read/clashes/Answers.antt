@@ -25,8 +25,8 @@ returns-then-not-is-zero g c n ws =
     let read = getD-read ss r (c .index-sides-r .result) (omega arith) (c .index-sides-r .is) (K .zero) in
     let long = length-lines K n ws ss u in
     sym (ap isSome (lowest-found (clash K) (blank K) (lines K n ws ss u) r (omega arith)
-        (λ k l. clash-at K n ws ss u k (omega arith) ∙ c .loop-r .inv k l)
-        (clash-at K n ws ss u r (omega arith) ∙ and-from _ _ (sym (c .if-has .ensures tt)) (ap not (ap (K .isZero) (sym read) ∙ sym (c .if-not-is-zero .ensures tt))))))
+    (λ k l. clash-at K n ws ss u k (omega arith) ∙ c .loop-r .inv k l)
+    (clash-at K n ws ss u r (omega arith) ∙ and-from _ _ (sym (c .if-has .ensures tt)) (ap not (ap (K .isZero) (sym read) ∙ sym (c .if-not-is-zero .ensures tt))))))
 
 pub loop-r-again : need.loop-r-again
 loop-r-again g c =
@@ -34,9 +34,10 @@ loop-r-again g c =
     let ss = c .args .sides .now in
     let us = shown (c .args .uses .now .unused) in
     below-more (λ q. (has us q && not (K .isZero (getD ss q (K .zero)))) ≡ false) (c .loop-r .r) (c .loop-r .inv)
-    (elim (c .else-has .came)
-    [ else-has·by·then-has·else-not-is-zero w ↦ and-right _ _ (ap not (ap (K .isZero) (sym (getD-read ss (c .loop-r .r) (w .index-sides-r .result) (omega arith) (w .index-sides-r .is) (K .zero))) ∙ sym (w .if-not-is-zero .ensures tt)))
-    | else-has·by·else-has w ↦ and-left _ _ (sym (w .if-has .ensures tt)) ])
+    (elim (c .else-has .came) [
+      | else-has·by·then-has·else-not-is-zero w ↦ and-right _ _ (ap not (ap (K .isZero) (sym (getD-read ss (c .loop-r .r) (w .index-sides-r .result) (omega arith) (w .index-sides-r .is) (K .zero))) ∙ sym (w .if-not-is-zero .ensures tt)))
+      | else-has·by·else-has w ↦ and-left _ _ (sym (w .if-has .ensures tt))
+    ])
 
 pub returns : need.returns
 returns g c n ws =

@@ -41,8 +41,8 @@ loop-q-again g c =
     let long : 8 * q + 8 ≤ length (c .loop-q .words) = omega (arith, c .pre .within, c .loop-q .kept .words, c .loop-q .kept .sides) in
     moved (c .leave .ensures) (c .add-line .ensures .words) (c .add-line .ensures .sides z)
     (adding-more (g .S·Symbol .kind .sum) (shown all) (c .line-at-line .result) (c .index-sides-r .result) (c .args .words .now) (c .args .sides .now)
-        left (c .loop-q .words) ss (c .loop-q .count) q (c .loop-q .inv) here
-        (ap length (c .line-at-line .ensures) ∙ length-row (c .args .words .now) (c .args .r)) long low (getD ss q z) (λ d. getD-default ss q z d low))
+    left (c .loop-q .words) ss (c .loop-q .count) q (c .loop-q .inv) here
+    (ap length (c .line-at-line .ensures) ∙ length-row (c .args .words .now) (c .args .r)) long low (getD ss q z) (λ d. getD-default ss q z d low))
 
 pub returns : need.returns
 returns g c =

@@ -11,9 +11,10 @@ loop-r-holds c = built-none (c .args .m) (holding (c .args .words .now) (c .args
 
 pub loop-r-again : need.loop-r-again
 loop-r-again c =
-    elim (c .if-row-has .came)
-    [ then-row-has w ↦ built-put (c .loop-r .inv) (c .loop-r-test .taken) (sym (c .row-has .ensures) ∙ w .if-row-has .taken) _ (ap shown (w .held-is) ∙ w .put .ensures)
-    | else-row-has w ↦ built-skip (c .loop-r .inv) (sym (c .row-has .ensures) ∙ w .if-row-has .left) _ (ap shown (w .held-is)) ]
+    elim (c .if-row-has .came) [
+      | then-row-has w ↦ built-put (c .loop-r .inv) (c .loop-r-test .taken) (sym (c .row-has .ensures) ∙ w .if-row-has .taken) _ (ap shown (w .held-is) ∙ w .put .ensures)
+      | else-row-has w ↦ built-skip (c .loop-r .inv) (sym (c .row-has .ensures) ∙ w .if-row-has .left) _ (ap shown (w .held-is))
+    ]
 
 pub returns : need.returns
 returns c = built-all (c .loop-r .inv) (omega arith)

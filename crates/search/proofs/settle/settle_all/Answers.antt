@@ -42,15 +42,16 @@ loop-i-again g c =
     let d = getD (w .pivots .columns) i 0 in
     let s₀ = bare K (c .args .words .now) (c .args .sides .now) w₀ in
     let cs = w₀ .pivots .columns in
-    let in′ : i < length cs = omega (arith, w₀ .pivots .room, c .pre .room .named) in
-    (record { wide = e .sized .wide ∙ inv .0 .wide; high = e .sized .high; few = e .sized .few; within = e .sized .within },
-    e .same ∙ inv .1,
-    omega (arith, e .few .0, inv .2),
-    omega (arith, e .few .1, inv .3),
-    e .state
-    ∙ ap (λ s. settle-at K d (lowest (holder d) (s .rows)) s) (inv .4)
-    ∙ sym (settle-push K (take i cs) d s₀)
-    ∙ ap (λ ps. settle K ps s₀) (ap (λ t. take i cs ++ (getD (t .columns) i 0 ∷ [])) (inv .1) ∙ sym (take-more cs i 0 in′)))
+    let in′ : i < length cs = omega (arith, w₀ .pivots .room, c .pre .room .named) in (
+      record { wide = e .sized .wide ∙ inv .0 .wide; high = e .sized .high; few = e .sized .few; within = e .sized .within },
+      e .same ∙ inv .1,
+      omega (arith, e .few .0, inv .2),
+      omega (arith, e .few .1, inv .3),
+      e .state
+          ∙ ap (λ s. settle-at K d (lowest (holder d) (s .rows)) s) (inv .4)
+          ∙ sym (settle-push K (take i cs) d s₀)
+          ∙ ap (λ ps. settle K ps s₀) (ap (λ t. take i cs ++ (getD (t .columns) i 0 ∷ [])) (inv .1) ∙ sym (take-more cs i 0 in′)),
+    )
 
 pub returns : need.returns
 returns g c =

@@ -12,9 +12,10 @@ loop-c-holds g c =
 
 pub loop-c-again : need.loop-c-again
 loop-c-again g c =
-    elim (c .if-not-received-c .came)
-    [ then-not-received-c w ↦ filling-put (c .loop-c .inv) (omega arith) (w .if-not-received-c .taken) (w .symbol .result) (w .symbol .ensures) _ (w .table-is)
-    | else-not-received-c w ↦ filling-kept (c .loop-c .inv) (w .if-not-received-c .left) _ (w .table-is) ]
+    elim (c .if-not-received-c .came) [
+      | then-not-received-c w ↦ filling-put (c .loop-c .inv) (omega arith) (w .if-not-received-c .taken) (w .symbol .result) (w .symbol .ensures) _ (w .table-is)
+      | else-not-received-c w ↦ filling-kept (c .loop-c .inv) (w .if-not-received-c .left) _ (w .table-is)
+    ]
 
 pub returns : need.returns
 returns g c = filling-all (c .loop-c .inv) (omega arith)

@@ -36,10 +36,10 @@ loop-q-again c =
     let held = c .loop-q .inv .part q here in
     let low = shown-below (c .args .held .now) q held in
     lowering-more (shown (c .args .held .now)) (shown (c .args .unused .now)) left (c .args .self .now) t (c .lower-one .last .self) q (c .loop-q .inv) here
-        (omega (arith, low, c .pre .few, t .room)) (omega (arith, low, c .pre .width, c .loop-q .inv .wide)) (omega (arith, left-count (c .loop-q .inv) q here, c .pre .some q held))
-        (c .lower-one .ensures .counts) (c .lower-one .ensures .ready) (shown (c .leave .last .self)) (c .leave .ensures)
+    (omega (arith, low, c .pre .few, t .room)) (omega (arith, low, c .pre .width, c .loop-q .inv .wide)) (omega (arith, left-count (c .loop-q .inv) q here, c .pre .some q held))
+    (c .lower-one .ensures .counts) (c .lower-one .ensures .ready) (shown (c .leave .last .self)) (c .leave .ensures)
 
 pub returns : need.returns
 returns c =
     lowering-all (shown (c .args .held .now)) (shown (c .args .unused .now)) (shown (c .loop-q .left)) (c .args .self .now) (c .loop-q .self) (c .loop-q .inv)
-        (lowest-none (λ b. b) false refl (shown (c .loop-q .left)) (sym (c .in-rest .ensures tt)))
+    (lowest-none (λ b. b) false refl (shown (c .loop-q .left)) (sym (c .in-rest .ensures tt)))
