@@ -2,6 +2,8 @@
 mod find;
 mod row;
 mod set;
+#[cfg(test)]
+mod tests;
 
 pub use find::alone;
 pub use find::count;

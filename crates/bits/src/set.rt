@@ -17,14 +17,6 @@ pub(crate) fn bit_at(word: u64, k: usize) -> bool
     (word >> k) & 1 == 1
 }
 
-// The word of bit k alone.
-fn power(k: usize) -> u64
-    requires { ⌜ k < 64 ⌝ }
-    ensures { λ r. ⌜ r ≡ 2 ^ k ⌝ }
-{
-    1 << k
-}
-
 // Whether the words hold c; none hold a number past their end.
 pub fn has(words: &[u64], c: usize) -> bool
     ensures { λ r. ⌜ r ≡ holds (now (words .entry)) c ⌝ }
@@ -45,7 +37,7 @@ fn put_bit(words: &mut [u64], c: usize)
     requires { ⌜ c / 64 < length (now words) ⌝ }
     ensures { λ _. ⌜ now (words .exit) ≡ with-word (now (words .entry)) (c / 64) (bitOr (getD (now (words .entry)) (c / 64) 0) (2 ^ (c % 64))) ⌝ }
 {
-    words[c / 64] |= power(c % 64);
+    words[c / 64] |= 1 << (c % 64);
 }
 
 // Takes c out where it is in, and puts it in where it is not; nothing past the end of the words.
@@ -61,7 +53,7 @@ fn flip_bit(words: &mut [u64], c: usize)
     requires { ⌜ c / 64 < length (now words) ⌝ }
     ensures { λ _. ⌜ now (words .exit) ≡ with-word (now (words .entry)) (c / 64) (bitXor (getD (now (words .entry)) (c / 64) 0) (2 ^ (c % 64))) ⌝ }
 {
-    words[c / 64] ^= power(c % 64);
+    words[c / 64] ^= 1 << (c % 64);
 }
 
 // Adds a set to another: what both hold goes out.

@@ -1,0 +1,3 @@
+pub mod BadRecords
+pub mod Members
+pub mod Segments

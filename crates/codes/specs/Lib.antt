@@ -1,3 +1,10 @@
 pub mod Codewords
+pub mod Listings
 pub mod Matrix
+pub mod MatrixLaws
+pub mod RecordLaws
+pub mod Records
+pub mod Refusals
 pub mod Shapes
+pub mod Tables
+pub mod Totals

@@ -1,4 +1,10 @@
-// The sizes of a code.
+// The sizes of a code, and how large they may be.
+
+pub const MAX_ROWS: usize = 256;
+
+pub const MAX_COLUMNS: usize = 512;
+
+pub const MAX_ONES: usize = 4096;
 
 #[derive(Clone, Copy, PartialEq, Eq, Debug)]
 pub struct Shape {

@@ -5,7 +5,7 @@
 use mathlib.Core.List.{[], _∷_}
 use Rattle.std.specs.declared.result.Result.{Result}
 use Rattle.std.specs.declared.result.Result.the-variants.{Ok, Err}
-use Rattle.packets.specs.Refusals.{Refusal, refusal}
+use Rattle.refusals.specs.Refusals.{Refusal, refusal}
 use Rattle.packets.specs.declared.fault.HeaderFault.{HeaderFault}
 use Rattle.packets.specs.declared.fault.HeaderFault.the-variants.{Length, Block, Number}
 

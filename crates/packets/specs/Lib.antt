@@ -2,4 +2,3 @@ pub mod Faults
 pub mod Figure
 pub mod Laws
 pub mod Packets
-pub mod Refusals

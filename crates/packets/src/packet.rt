@@ -1,6 +1,7 @@
 // A packet of 68 bytes: a header of four bytes, and a cell.
 ghost use mathlib.Core.Path.{_≡_};
 ghost use mathlib.Core.Bool.{cond};
+ghost use lib.ListN.{length};
 ghost use Rattle.std.specs.Results.{isOk};
 ghost use Rattle.std.specs.Vec.{made};
 ghost use Rattle.packets.specs.Faults.{answered};
@@ -54,7 +55,7 @@ pub fn write_packet(
     number: u32,
     cell: &[u8; CELL],
 ) -> Result<(), HeaderFault>
-    ensures answer { λ r. ⌜ answered r ≡ write-packet (now (bytes .entry)) block number ⌝ }
+    ensures answer { λ r. ⌜ answered r ≡ write-packet (length (now (bytes .entry))) block number ⌝ }
     ensures after { λ r. ⌜ now (bytes .exit) ≡ cond (isOk r) (packet block number (now (cell .entry))) (now (bytes .entry)) ⌝ }
     ensures law { λ r. ⌜ made r (λ _. Reads (now (bytes .exit)) block number (now (cell .entry))) ⌝ }
 {

@@ -1,0 +1,4 @@
+pub mod Interleavings
+pub mod Orders
+pub mod Stacks
+pub mod Words

@@ -1,0 +1,4 @@
+pub mod LayerLaws
+pub mod Layers
+pub mod Permutations
+pub mod Rows

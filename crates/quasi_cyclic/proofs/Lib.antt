@@ -1,0 +1,5 @@
+pub mod BadEntries
+pub mod LineLaws
+pub mod Picks
+pub mod SquareLaws
+pub mod Squares

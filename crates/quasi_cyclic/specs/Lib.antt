@@ -1,0 +1,5 @@
+pub mod Circulants
+pub mod Entries
+pub mod EntryLaws
+pub mod Lines
+pub mod SquareRows
