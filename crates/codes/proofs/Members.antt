@@ -13,7 +13,7 @@ use Rattle.std.proofs.shelf.Tests.{or-left, eq-eqb, ne-eqb}
 use Rattle.std.specs.declared.option.Option.the-variants.{Some, None}
 use Rattle.codes.specs.Matrix.{member}
 
-some-here : (row : List ℕ) (i k : ℕ) → i < length row → Some k ≡ nth row i → k ≡ getD row i 0
+pub some-here : (row : List ℕ) (i k : ℕ) → i < length row → Some k ≡ nth row i → k ≡ getD row i 0
 some-here row i k h e = let f = nth-getD row i 0 h in cc
 
 pub member-here : (c : ℕ) (row : List ℕ) (i k : ℕ) → i < length row → Some k ≡ nth row i → k ≡ c → member c (drop i row) ≡ true

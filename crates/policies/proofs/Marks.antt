@@ -1,24 +1,24 @@
 -- A number put into a set, or taken out; the lowest one.
-use mathlib.Core.Path.{_≡_, refl, sym, ap, _∙_}
-use mathlib.Core.Bool.{Bool, true, false, _||_}
+use mathlib.Core.Path.{_≡_, refl, sym, ap, ap₂, _∙_}
+use mathlib.Core.Bool.{Bool, true, false, _||_, _&&_}
 use mathlib.Core.List.{List, [], _∷_}
 use mathlib.Core.Logic.{_⊎_, inl, inr, ⊎-elim}
-use Prim.Native.Nat.{ℕ, zero, suc, _+_, _%_, _/_, _<_, _≤_}
+use Prim.Native.Nat.{ℕ, zero, suc, min, _+_, _%_, _/_, _<_, _≤_}
 use native.Mathlib.Omega.{arith}
 use lib.ListN.{length, getD, set, replicate, length-set}
 use lib.Seq.{getD-set-same, getD-set-other}
 use lib.Dec.{eqb}
 use Rattle.std.proofs.shelf.Counted.{getD-map-counting, length-map-counting}
 use Rattle.std.proofs.shelf.Lists.{same-lists, ext-getD, getD-past, set-past, getD-replicate, length-replicate}
-use Rattle.std.proofs.shelf.Tests.{cases-eq, cases-lt, cases-order, eq-eqb, ne-eqb, both-ways}
+use Rattle.std.proofs.shelf.Tests.{cases-eq, cases-lt, cases-order, eq-eqb, ne-eqb, both-ways, and-left, and-right}
 use Rattle.std.specs.declared.option.Option.{Option}
 use Rattle.std.specs.declared.option.Option.the-variants.{Some, None}
-use Rattle.bits.specs.Sets.{holds, differ, bit, Least}
-use Rattle.bits.proofs.Held.{differ-none}
+use Rattle.bits.specs.Sets.{holds, differ, bit, ands, Least}
+use Rattle.bits.proofs.Held.{differ-none, holds-ands}
 use Rattle.bits.proofs.Found.{least-like}
 use Rattle.bits.proofs.Word.{bit-zero}
-use Rattle.method.specs.Sets.{has, lowest, later}
-use Rattle.method.proofs.Marks.{has-below}
+use Rattle.method.specs.Sets.{has, meet, lowest, later}
+use Rattle.method.proofs.Marks.{has-below, has-meet}
 use Rattle.policies.specs.declared.columns.Columns.{Columns}
 use Rattle.policies.specs.Shown.{marks-of, shown}
 
@@ -104,6 +104,28 @@ pub marks-zeros : (k n : ℕ) → marks-of n (replicate k 0) ≡ replicate n fal
 marks-zeros k n = same-lists _ _ (length-marks n (replicate k 0) ∙ sym (length-replicate n false)) (λ c d h.
     let l : c < n = omega (arith, length-marks n (replicate k 0)) in
     marks-at n (replicate k 0) c d l ∙ holds-zeros k c ∙ sym (getD-replicate n c false d l))
+
+-- what two sets share
+pub length-meet : (s t : List Bool) → length (meet s t) ≡ min (length s) (length t)
+length-meet [] t = omega arith
+length-meet (a ∷ s) [] = omega arith
+length-meet (a ∷ s) (b ∷ t) = omega (arith, length-meet s t)
+
+module _ (s t : Columns) where
+  shared-words : (c : ℕ) → holds (ands (s .words) (t .words)) c ≡ (holds (s .words) c && holds (t .words) c)
+  shared-words c = holds-ands (s .words) (t .words) (s .eight ∙ sym (t .eight)) c
+
+  pub shared-within : (n : ℕ) → n ≡ min (s .width) (t .width) → (c : ℕ) → n ≤ c → holds (ands (s .words) (t .words)) c ≡ false
+  shared-within n e c l =
+      shared-words c ∙ ⊎-elim (λ (h : c < s .width). and-right (holds (s .words) c) (holds (t .words) c) (t .within c (omega arith)))
+      (λ (h : s .width ≤ c). and-left (holds (s .words) c) (holds (t .words) c) (s .within c h))
+      (cases-lt c (s .width))
+
+  pub shown-shared : (n : ℕ) → n ≡ min (s .width) (t .width) → marks-of n (ands (s .words) (t .words)) ≡ meet (shown s) (shown t)
+  shown-shared n e =
+      ext-getD false _ _ (length-marks n (ands (s .words) (t .words)) ∙ e ∙ sym (length-meet (shown s) (shown t) ∙ ap₂ min (length-shown s) (length-shown t))) (λ c h.
+      marks-at n (ands (s .words) (t .words)) c false (omega (arith, length-marks n (ands (s .words) (t .words)))) ∙ shared-words c
+      ∙ sym (has-meet (shown s) (shown t) c ∙ ap₂ _&&_ (has-shown s c) (has-shown t c)))
 
 -- a list filled from its start with one value
 pub all-same : {X : Type 0} (xs : List X) (n : ℕ) (z : X) → length xs ≡ n → ((k : ℕ) → k < n → getD xs k z ≡ z) → xs ≡ replicate n z

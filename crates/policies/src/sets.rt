@@ -3,7 +3,7 @@ ghost use mathlib.Core.Path.{_≡_};
 ghost use mathlib.Core.Bool.{true, false};
 ghost use Prim.Native.Nat.{min};
 ghost use lib.ListN.{set, replicate};
-ghost use Rattle.method.specs.Sets.{has, lowest};
+ghost use Rattle.method.specs.Sets.{has, meet, lowest};
 ghost use Rattle.policies.specs.Shown.{shown};
 use crate::columns::Columns;
 
@@ -51,6 +51,16 @@ impl Columns {
     {
         if self.has(c) {
             bits::flip(&mut self.words, c);
+        }
+    }
+
+    // What is in both sets, as wide as the narrower.
+    pub fn both(&self, other: &Columns) -> Columns
+        ensures { λ r. ⌜ shown r ≡ meet (shown (now (self .entry))) (shown (now (other .entry))) ⌝ }
+    {
+        Columns {
+            words: bits::shared(&self.words, &other.words),
+            width: self.width.min(other.width),
         }
     }
 

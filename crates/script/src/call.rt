@@ -33,7 +33,7 @@ pub enum Call {
 }
 
 // Whether a word is this text.
-fn is_word(word: &[u8], text: &str) -> bool
+pub fn is_word(word: &[u8], text: &str) -> bool
     ensures { λ r. ⌜ r ≡ sameBytes (now (word .entry)) (now (text .entry)) ⌝ }
 {
     word == text.as_bytes()

@@ -65,7 +65,7 @@ fn show(heap: Global, line: &[u8]) -> Result<String, AllocError>
 }
 
 // The answer to a line that is no call.
-fn refuse_line(heap: Global, k: u64, line: &[u8]) -> Result<String, AllocError>
+pub fn refuse_line(heap: Global, k: u64, line: &[u8]) -> Result<String, AllocError>
     ensures { λ r. ⌜ made r (λ s. string-bytes s ≡ not-understood k (now (line .entry))) ⌝ }
 {
     let text = show(heap, line)?;

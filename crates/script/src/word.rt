@@ -41,7 +41,7 @@ fn skip(line: &[u8]) -> &[u8]
 }
 
 // The first word, empty where there is none, and what follows it.
-pub(crate) fn split_word(line: &[u8]) -> (&[u8], &[u8])
+pub fn split_word(line: &[u8]) -> (&[u8], &[u8])
     ensures word { λ r. ⌜ now (r .0) ≡ first-word (now (line .entry)) ⌝ }
     ensures rest { λ r. ⌜ now (r .1) ≡ after-word (now (line .entry)) ⌝ }
 {
@@ -50,7 +50,7 @@ pub(crate) fn split_word(line: &[u8]) -> (&[u8], &[u8])
 }
 
 // Whether a line has no word.
-pub(crate) fn is_blank(line: &[u8]) -> bool
+pub fn is_blank(line: &[u8]) -> bool
     ensures { λ r. ⌜ r ≡ blank (now (line .entry)) ⌝ }
 {
     skip(line).is_empty()

@@ -1,0 +1,4 @@
+pub mod Notation
+pub mod Worked
+pub mod Mistaken
+pub mod Telling

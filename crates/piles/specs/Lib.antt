@@ -1,0 +1,4 @@
+pub mod Answers
+pub mod Bases
+pub mod Piles
+pub mod Policies
