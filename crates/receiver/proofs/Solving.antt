@@ -84,7 +84,7 @@ told-lack m (several v a f) e is = (ap (λ u. Err (as-unsolved (lack e u))) is, 
 
 module _ {S P : Type 0} (K : Kind S) (choice : Matrix → Choice P) (k : Matrix) (m : Block S) (p p′ : P) (ws ws′ : List ℕ) (ss ss′ : List S) where
   -- a search that found a codeword was not refused
-  ran : (f : Seen) → Looked K choice k (m .received) (take (m .n) (m .table)) p p′ ws ws′ ss ss′ (Ok f) → first-of (answers.causes k (length (take (m .n) (m .table))) (length ws) (length ss)) ≡ None
+  ran : (f : Seen) → Looked K choice k (m .received) (take (m .n) (m .table)) p ws ss p′ ws′ ss′ (Ok f) → first-of (answers.causes k (length (take (m .n) (m .table))) (length ws) (length ss)) ≡ None
   ran f l = go (first-of (answers.causes k (length (take (m .n) (m .table))) (length ws) (length ss))) (l .answer)
     where
       go : (o : Option Unfound) → _≡_ {A = Result Report Unfound} (Ok (f .report)) (searches.searched-by K choice k (m .received) (take (m .n) (m .table)) p ws ss o .answer) → o ≡ None
@@ -94,13 +94,13 @@ module _ {S P : Type 0} (K : Kind S) (choice : Matrix → Choice P) (k : Matrix)
   -- a solve that granted reached its search
   granted-reached : (f : Seen) → Sought K choice k m p p′ ws ws′ ss ss′ (Ok f)
       → (k .width ≡ m .n) × (refusal K (seen m) (solve (search-of k (length ws) (length ss))) ≡ None)
-      × Looked K choice k (m .received) (take (m .n) (m .table)) p p′ ws ws′ ss ss′ (Ok f)
+      × Looked K choice k (m .received) (take (m .n) (m .table)) p ws ss p′ ws′ ss′ (Ok f)
   granted-reached f s = go (is-out (m .out)) (eqb (k .width) (m .n)) refl s
     where
       go : (out same : Bool) → eqb (k .width) (m .n) ≡ same
           → Sought-by K choice k m (cond out (Some (fault.PermitOut (m .stamp))) (cond (not same) (Some (fault.OtherWidth (k .width))) None)) p p′ ws ws′ ss ss′ (Ok f)
           → (k .width ≡ m .n) × (cond out (Some (fault.PermitOut (m .stamp))) (cond (not same) (Some (fault.OtherWidth (k .width))) (cond (short (height k) (length ws) (length ss)) (Some (fault.ShortMemory (height k))) None)) ≡ None)
-          × Looked K choice k (m .received) (take (m .n) (m .table)) p p′ ws ws′ ss ss′ (Ok f)
+          × Looked K choice k (m .received) (take (m .n) (m .table)) p ws ss p′ ws′ ss′ (Ok f)
       go true same e u = let z : _≡_ {A = ℕ} 0 1 = let q = u .0 in cc in absurd (omega arith)
       go false false e u = let z : _≡_ {A = ℕ} 0 1 = let q = u .0 in cc in absurd (omega arith)
       go false true e u =
@@ -158,7 +158,7 @@ module _ {S P : Type 0} (K : Kind S) (choice : Matrix → Choice P) (k : Matrix)
       go false false e v = kept (fault.OtherWidth (k .width)) v
       go false true e v = ended (short (height k) (length ws) (length ss)) (ap (λ b. cond (not b) (Some (lacks.OtherWidth (k .width))) (cond (short (height k) (length ws) (length ss)) (Some (lacks.ShortMemory (height k))) None)) (eq-eqb (k .width) (length (take (m .n) (m .table))) (eqb-true _ _ e ∙ sym (length-take-le (m .n) (m .table) fits))))
         where
-          l : Looked K choice k (m .received) (take (m .n) (m .table)) p p′ ws ws′ ss ss′ (Err (v .0))
+          l : Looked K choice k (m .received) (take (m .n) (m .table)) p ws ss p′ ws′ ss′ (Err (v .0))
           l = v .2
           ended : (c : Bool) → first-of (answers.causes k (length (take (m .n) (m .table))) (length ws) (length ss)) ≡ cond c (Some (lacks.ShortMemory (height k))) None
               → record { answer = Err u; block = m; policy = p′; words = ws′; sides = ss′ } ≡ solved-by K choice k m p (cond c (Some (fault.ShortMemory (height k))) None) ws ss

@@ -113,9 +113,9 @@ seek-causes K k m =
 -- a search that was refused changes nothing; one that ran is still to be read out of the right sides
 abbrev pub Sought-by : {S P : Type 0} → Kind S → (Matrix → Choice P) → Matrix → Block S → Option Fault → P → P → List ℕ → List ℕ → List S → List S → Result Seen Unsolved → Type 0
 Sought-by K choice k m (Some f) p p′ ws ws′ ss ss′ r = (r ≡ Err (Refused f)) × (p′ ≡ p) × (ws′ ≡ ws) × (ss′ ≡ ss)
-Sought-by K choice k m None p p′ ws ws′ ss ss′ (Ok f) = Looked K choice k (m .received) (take (m .n) (m .table)) p p′ ws ws′ ss ss′ (Ok f)
+Sought-by K choice k m None p p′ ws ws′ ss ss′ (Ok f) = Looked K choice k (m .received) (take (m .n) (m .table)) p ws ss p′ ws′ ss′ (Ok f)
 Sought-by K choice k m None p p′ ws ws′ ss ss′ (Err u) =
-    (e : Unfound) × (u ≡ as-unsolved e) × Looked K choice k (m .received) (take (m .n) (m .table)) p p′ ws ws′ ss ss′ (Err e)
+    (e : Unfound) × (u ≡ as-unsolved e) × Looked K choice k (m .received) (take (m .n) (m .table)) p ws ss p′ ws′ ss′ (Err e)
 
 abbrev pub Sought : {S P : Type 0} → Kind S → (Matrix → Choice P) → Matrix → Block S → P → P → List ℕ → List ℕ → List S → List S → Result Seen Unsolved → Type 0
 Sought K choice k m p p′ ws ws′ ss ss′ r =
