@@ -30,7 +30,15 @@ fn enter<S: Symbol>(log: &mut [Entry<S>], i: usize, entry: Entry<S>)
 }
 
 // Obeys one order after another, and closes the block where a permit is left in hand.
-fn serve<S: Symbol, C: Code, P: Policy>(block: &mut Block<'_, S>, code: &C, policy: &mut P, words: &mut [u64], sides: &mut [S], orders: &[Order<S>], log: &mut [Entry<S>])
+fn serve<S: Symbol, C: Code, P: Policy>(
+    block: &mut Block<'_, S>,
+    code: &C,
+    policy: &mut P,
+    words: &mut [u64],
+    sides: &mut [S],
+    orders: &[Order<S>],
+    log: &mut [Entry<S>],
+)
     requires fresh { ⌜ model (now block) .out ≡ Nothing ⌝ }
     requires long { ⌜ length (now log) ≡ length (now orders) ⌝ }
     ensures { λ _. ⌜ ((o : Opened) → Stands (S·Symbol .kind) o [] (model (now (block .entry))) → DayTrue (S·Symbol .kind) o (day-on (S·Symbol .kind) (P·Policy .choice) (C·Rows .matrix (now (code .entry))) (length (now (words .entry))) (length (now (sides .entry))) (Some (now-of (model (now (block .entry))) (now (policy .entry)) None [])) (now (orders .entry)) (now (log .exit)))) ⌝ }
@@ -59,7 +67,17 @@ pub enum Unbegun {
 
 // Opens a block over the table, makes one call after another on it and enters each answer in the log. A permit that is left
 // in hand at the end is closed.
-pub fn day<S: Symbol, C: Code, P: Policy>(number: u32, stamp: Stamp, table: &mut [S], code: &C, policy: &mut P, words: &mut [u64], sides: &mut [S], orders: &[Order<S>], log: &mut [Entry<S>]) -> Result<(), Unbegun>
+pub fn day<S: Symbol, C: Code, P: Policy>(
+    number: u32,
+    stamp: Stamp,
+    table: &mut [S],
+    code: &C,
+    policy: &mut P,
+    words: &mut [u64],
+    sides: &mut [S],
+    orders: &[Order<S>],
+    log: &mut [Entry<S>],
+) -> Result<(), Unbegun>
     ensures { λ r. ⌜ Day (S·Symbol .kind) (P·Policy .choice) (C·Rows .matrix (now (code .entry))) (length (now (words .entry))) (length (now (sides .entry))) number stamp (now (table .entry)) (now (policy .entry)) (now (orders .entry)) (now (log .entry)) (now (log .exit)) r ⌝ }
 {
     if log.len() != orders.len() {

@@ -29,7 +29,13 @@ fn obey_show<S: Symbol, P>(block: &Block<'_, S>, permit: &Permit, place: u32) ->
     }
 }
 
-fn obey_receive<S: Symbol, P>(block: &mut Block<'_, S>, number: u32, stamp: Stamp, place: u32, symbol: S) -> Entry<S>
+fn obey_receive<S: Symbol, P>(
+    block: &mut Block<'_, S>,
+    number: u32,
+    stamp: Stamp,
+    place: u32,
+    symbol: S,
+) -> Entry<S>
     ensures lent { λ _. ⌜ name (now (block .exit) .table) ≡ name (now (block .entry) .table) ⌝ }
     ensures obeyed { λ r. ⌜ ((choice : Matrix → Choice P) (k : Matrix) (ws ss : ℕ) (p : P) (q : Option Permit) → Obeyed (S·Symbol .kind) choice k ws ss (model (now (block .entry))) (model (now (block .exit))) p p q q (Order.Receive number stamp place symbol) r) ⌝ }
 {
@@ -56,7 +62,14 @@ fn obey_close<S: Symbol, P>(block: &mut Block<'_, S>, permit: Permit) -> Entry<S
 }
 
 // Solves; the permit in hand afterwards is the one given, or the one before.
-fn obey_solve<S: Symbol, C: Code, P: Policy>(block: &mut Block<'_, S>, held: Option<Permit>, code: &C, policy: &mut P, words: &mut [u64], sides: &mut [S]) -> (Entry<S>, Option<Permit>)
+fn obey_solve<S: Symbol, C: Code, P: Policy>(
+    block: &mut Block<'_, S>,
+    held: Option<Permit>,
+    code: &C,
+    policy: &mut P,
+    words: &mut [u64],
+    sides: &mut [S],
+) -> (Entry<S>, Option<Permit>)
     requires { ⌜ Holding (model (now block)) held ⌝ }
     ensures lent { λ _. ⌜ name (now (block .exit) .table) ≡ name (now (block .entry) .table) ⌝ }
     ensures obeyed { λ r. ⌜ Obeyed (S·Symbol .kind) (P·Policy .choice) (C·Rows .matrix (now (code .entry))) (length (now (words .entry))) (length (now (sides .entry))) (model (now (block .entry))) (model (now (block .exit))) (now (policy .entry)) (now (policy .exit)) held (r .1) Order.Solve (r .0) ⌝ }
@@ -71,13 +84,29 @@ fn obey_solve<S: Symbol, C: Code, P: Policy>(block: &mut Block<'_, S>, held: Opt
 }
 
 // Obeys one order; the permit in hand is always the block's.
-pub(crate) fn obey<S: Symbol, C: Code, P: Policy>(block: &mut Block<'_, S>, held: Option<Permit>, code: &C, policy: &mut P, words: &mut [u64], sides: &mut [S], order: Order<S>) -> (Entry<S>, Option<Permit>)
+pub(crate) fn obey<S: Symbol, C: Code, P: Policy>(
+    block: &mut Block<'_, S>,
+    held: Option<Permit>,
+    code: &C,
+    policy: &mut P,
+    words: &mut [u64],
+    sides: &mut [S],
+    order: Order<S>,
+) -> (Entry<S>, Option<Permit>)
     requires { ⌜ Holding (model (now block)) held ⌝ }
     ensures lent { λ _. ⌜ name (now (block .exit) .table) ≡ name (now (block .entry) .table) ⌝ }
     ensures obeyed { λ r. ⌜ Obeyed (S·Symbol .kind) (P·Policy .choice) (C·Rows .matrix (now (code .entry))) (length (now (words .entry))) (length (now (sides .entry))) (model (now (block .entry))) (model (now (block .exit))) (now (policy .entry)) (now (policy .exit)) held (r .1) order (r .0) ⌝ }
 {
     match order {
-        Order::Receive { number, stamp, place, symbol } => (obey_receive::<S, P>(block, number, stamp, place, symbol), held),
+        Order::Receive {
+            number,
+            stamp,
+            place,
+            symbol,
+        } => (
+            obey_receive::<S, P>(block, number, stamp, place, symbol),
+            held,
+        ),
         Order::Solve => obey_solve(block, held, code, policy, words, sides),
         Order::Show { place } => match held {
             Some(permit) => {

@@ -16,6 +16,8 @@ pub returns-in-None : need.returns-in-None
 returns-in-None g c =
     let K = g .S·Symbol .kind in
     let granted = no-refusal K (c .args .number) (c .args .stamp) (c .args .table .now) _ (c .open-block .ensures .values) (c .in-None .ensures tt) in
-    let n = length (c .args .table .now) in
-    (granted, subst (λ m. DayTrue K (opening (c .args .number) (c .args .stamp) n) (day-on K (g .P·Policy .choice) (g .C·Rows .matrix (c .args .code .now)) (length (c .args .words .now)) (length (c .args .sides .now)) (Some (now-of m (c .args .policy .now) None [])) (c .args .orders .now) (c .serve .last .log)))
-      (c .open-block .ensures .values) (c .serve .ensures (opening (c .args .number) (c .args .stamp) n) (c .open-block .ensures .history granted)))
+    let n = length (c .args .table .now) in (
+      granted,
+      subst (λ m. DayTrue K (opening (c .args .number) (c .args .stamp) n) (day-on K (g .P·Policy .choice) (g .C·Rows .matrix (c .args .code .now)) (length (c .args .words .now)) (length (c .args .sides .now)) (Some (now-of m (c .args .policy .now) None [])) (c .args .orders .now) (c .serve .last .log)))
+          (c .open-block .ensures .values) (c .serve .ensures (opening (c .args .number) (c .args .stamp) n) (c .open-block .ensures .history granted)),
+    )

@@ -32,14 +32,21 @@ loop-i-again g c =
     let inside : i < length (c .args .orders .now) = c .loop-i-test .taken in
     let room : i < length (c .loop-i .log) = omega (arith, inside, inv .2) in
     let told : on K choice k (length (c .args .words .now)) (length (c .args .sides .now)) x order entry ≡ Some y =
-          subst (λ n. on K choice k n (length (c .args .sides .now)) x order entry ≡ Some y) (inv .3) (subst (λ n. on K choice k (length (c .loop-i .words)) n x order entry ≡ Some y) (inv .4) (done .told h)) in
+    subst (λ n. on K choice k n (length (c .args .sides .now)) x order entry ≡ Some y) (inv .3) (subst (λ n. on K choice k (length (c .loop-i .words)) n x order entry ≡ Some y) (inv .4) (done .told h)) in
     let orders : take (i + 1) (c .args .orders .now) ≡ take i (c .args .orders .now) ++ order ∷ [] = take-more (c .args .orders .now) i order inside ∙ ap (λ o. take i (c .args .orders .now) ++ o ∷ []) (sym (c .index-orders-i .is)) in
-    let log : take (i + 1) (c .enter .last .log) ≡ take i (c .loop-i .log) ++ entry ∷ [] = ap (take (i + 1)) (c .enter .ensures) ∙ take-more-set (c .loop-i .log) i entry room in
-    (c .obey-entry .ensures .lent ∙ inv .0, done .holding (inv .1), ap length (c .enter .ensures) ∙ length-set (c .loop-i .log) i entry ∙ inv .2, words ∙ inv .3, sides ∙ inv .4,
-     (done .events ++ h,
-      (λ j. day-on K choice k (length (c .args .words .now)) (length (c .args .sides .now)) (Some (now-of (model (c .args .block .now)) (c .args .policy .now) None [])) (orders j) (log j))
-      ∙ day-more K choice k (length (c .args .words .now)) (length (c .args .sides .now)) (Some (now-of (model (c .args .block .now)) (c .args .policy .now) None [])) (take i (c .args .orders .now)) (take i (c .loop-i .log)) order entry x y (inv .5 .1) told,
-      λ o s. done .history o h (inv .5 .2 o s)))
+    let log : take (i + 1) (c .enter .last .log) ≡ take i (c .loop-i .log) ++ entry ∷ [] = ap (take (i + 1)) (c .enter .ensures) ∙ take-more-set (c .loop-i .log) i entry room in (
+      c .obey-entry .ensures .lent ∙ inv .0,
+      done .holding (inv .1),
+      ap length (c .enter .ensures) ∙ length-set (c .loop-i .log) i entry ∙ inv .2,
+      words ∙ inv .3,
+      sides ∙ inv .4,
+      (
+        done .events ++ h,
+        (λ j. day-on K choice k (length (c .args .words .now)) (length (c .args .sides .now)) (Some (now-of (model (c .args .block .now)) (c .args .policy .now) None [])) (orders j) (log j))
+            ∙ day-more K choice k (length (c .args .words .now)) (length (c .args .sides .now)) (Some (now-of (model (c .args .block .now)) (c .args .policy .now) None [])) (take i (c .args .orders .now)) (take i (c .loop-i .log)) order entry x y (inv .5 .1) told,
+        λ o s. done .history o h (inv .5 .2 o s),
+      ),
+    )
 
 pub returns-in-Ok : need.returns-in-Ok
 returns-in-Ok g c o s =

@@ -18,7 +18,7 @@ returns-in-None g c =
     record {
       lent = c .in-Ok .ensures tt .lent;
       obeyed = subst (λ r. Obeyed K (g .P·Policy .choice) k (length (c .args .words .now)) (length (c .args .sides .now)) m m′ (c .args .policy .now) (c .solve .last .policy) (c .args .held) (Some (c .in-Ok .permit)) Solve (Solved (Ok r)))
-        (sym (c .report .ensures)) (solved-with K (g .P·Policy .choice) k m m′ _ _ _ _ _ _ (c .in-Ok .permit) (c .args .held) (c .in-Ok .ensures tt .step) (c .in-Ok .ensures tt .history));
+          (sym (c .report .ensures)) (solved-with K (g .P·Policy .choice) k m m′ _ _ _ _ _ _ (c .in-Ok .permit) (c .args .held) (c .in-Ok .ensures tt .step) (c .in-Ok .ensures tt .history));
     }
 
 pub returns-in-Err : need.returns-in-Err
