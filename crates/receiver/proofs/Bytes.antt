@@ -53,8 +53,10 @@ packet-at at end bs within e = ap (λ k. take k (drop at bs)) counted ∙ shorte
   where
     l : length (drop at bs) ≡ length bs - at
     l = length-drop at bs
+
     counted : end - at ≡ min 68 (length (drop at bs))
     counted = omega (arith, e, l)
+
     shorter : (xs : List ℕ) → take (min 68 (length xs)) xs ≡ take 68 xs
     shorter xs = go (leb 68 (length xs)) refl
       where

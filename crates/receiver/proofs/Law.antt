@@ -65,11 +65,13 @@ module _ {S : Type 0} (K : Kind S) where
           all-both (λ k u e. record { stamp-is = u .stamp-is; below = u .below; symbol-is = getD-set-other (m .table) p (k .place) x (K .zero) (apart unmarked k u e) ∙ u .symbol-is }) (t .packets) (d .kept) (all-borne (t .packets)),
         );
         marked = λ q lt. mark below q lt (eqb p q) refl;
-        found = λ is. nothing-full (m .out) (not-out (m .out) (a .0)) is })
+        found = λ is. nothing-full (m .out) (not-out (m .out) (a .0)) is;
+      })
     where
       apart : getD (m .received) p false ≡ false → (k : Packet S) → Kept K m k → borne (t .packets) (k .place) ≡ true → k .place ≢ p
       apart unmarked k u e at =
           both-ways (getD (m .received) p false) unmarked (subst (λ q. getD (m .received) q false ≡ true) at (d .marked (k .place) (u .below) ∙ e))
+
       mark : p < m .n → (q : ℕ) → q < m .n → (c : Bool) → eqb p q ≡ c → getD (set (m .received) p true) q false ≡ (c || borne (t .packets) q)
       mark below q lt true is =
           subst (λ j. getD (set (m .received) p true) j false ≡ true) (eqb-true p q is) (getD-set-same (m .received) p true false (omega (arith, d .room)))
@@ -115,19 +117,22 @@ module _ {S : Type 0} (K : Kind S) where
   step-true o t m m′ few d (shown q p x) u =
       let a = no-cause _ _ _ (u .0) in
       let own = owned (seen m) q (not-false _ (a .0)) in
-      let below : p < m .n = leb-false _ _ (no-cause _ _ _ (a .1) .0) in
-      (record {
-        granted = sym (by-table d (show q p)) ∙ u .0;
-        in-found = in-found (t .last) (m .table) p x (d .found (own .0)) (omega (arith, below, d .whole)) (u .1);
-        stamp-borne = own .1 ∙ d .stamp;
-        under = under d },
-       same-tied o t m m′ (u .2) d)
+      let below : p < m .n = leb-false _ _ (no-cause _ _ _ (a .1) .0) in (
+        record {
+          granted = sym (by-table d (show q p)) ∙ u .0;
+          in-found = in-found (t .last) (m .table) p x (d .found (own .0)) (omega (arith, below, d .whole)) (u .1);
+          stamp-borne = own .1 ∙ d .stamp;
+          under = under d;
+        },
+        same-tied o t m m′ (u .2) d,
+      )
   step-true o t m m′ few d (closed q) u = (sym (by-table d (close q)) ∙ u .0, subst (Tied K o _) (sym (u .1)) (closed-tied o t m d))
   step-true o t m m′ few d (renewed s) u =
-      let off = not-out (m .out) (no-cause _ _ _ (u .0) .0) in
-      (sym (by-table d (renew s)) ∙ u .0,
-       subst (Tied K o _) (sym (u .1)) (fresh-tied o (after (renewed s) t) (renewed-block K s m) (d .number) refl (d .places) (d .out) off
-         (length-zeroed (K .zero) (m .n) (m .table) (d .whole)) few refl refl))
+      let off = not-out (m .out) (no-cause _ _ _ (u .0) .0) in (
+        sym (by-table d (renew s)) ∙ u .0,
+        subst (Tied K o _) (sym (u .1)) (fresh-tied o (after (renewed s) t) (renewed-block K s m) (d .number) refl (d .places) (d .out) off
+            (length-zeroed (K .zero) (m .n) (m .table) (d .whole)) few refl refl),
+      )
 
   -- a step goes on with any history
   pub goes-on : (m m′ : Block S) (e : Event S) → m .n ≤ 512 → Step K m e m′ → GoesOn K m (e ∷ []) m′
@@ -146,7 +151,7 @@ module _ {S : Type 0} (K : Kind S) where
       let c = no-cause (eqb s 0) NoStamp _ (a .1) in
       let e = no-cause _ (TableLength (length xs)) None (c .1) in
       subst (Stands K (opening b s (length xs)) []) (sym (is ∙ ap (λ r. opened-by K r b s xs) granted))
-        (starts (opening b s (length xs)) (opened-by K None b s xs) refl refl refl refl (length-zeroed (K .zero) (length xs) xs refl) (few (length xs) (e .0)) refl)
+      (starts (opening b s (length xs)) (opened-by K None b s xs) refl refl refl refl (length-zeroed (K .zero) (length xs) xs refl) (few (length xs) (e .0)) refl)
     where
       few : (n : ℕ) → (eqb n 0 || ltb 512 n) ≡ false → n ≤ 512
       few n e = go (eqb n 0) e

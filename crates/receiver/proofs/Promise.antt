@@ -58,10 +58,10 @@ module _ {S P : Type 0} {K : Kind S} (L : Laws K) (choice : Matrix → Choice P)
       let e = found-pivots m (outcome K choice k m p) in
       let tell = pivots-tell L (choice k) naming k lawful got sized syms p in
       let r = search-true K (st .tied) (search-of k nw ns) (named K choice k m p) (outcome K choice k m p) reached
-            (tells-exactly L (choice k) naming k lawful got sized syms p)
-            (e ∙ method-pivots K (choice k) k got syms p)
-            (named-in-turn L (choice k) naming k lawful got sized syms p)
-            (λ z. tell .0 (sym e ∙ z), λ n. e ∙ tell .1 n) in
+      (tells-exactly L (choice k) naming k lawful got sized syms p)
+      (e ∙ method-pivots K (choice k) k got syms p)
+      (named-in-turn L (choice k) naming k lawful got sized syms p)
+      (λ z. tell .0 (sym e ∙ z), λ n. e ∙ tell .1 n) in
       record { truths = (r .0, st .truths); tied = r .1 }
 
   -- granted, refused, or searched in vain: a solve goes on with any history
@@ -70,11 +70,11 @@ module _ {S P : Type 0} {K : Kind S} (L : Laws K) (choice : Matrix → Choice P)
       → GoesOn K m (solve-event (search-of k (length ws) (length ss)) (named K choice k m p) r ∷ []) m′
   solve-goes-on p p′ ws ws′ ss ss′ r m′ few flags done =
       subst (λ d. GoesOn K m (solve-event (search-of k (length ws) (length ss)) (named K choice k m p) (d .answer) ∷ []) (d .block)) (sym done)
-        (go (refusal K (seen m) (solve (search-of k (length ws) (length ss)))) refl)
+      (go (refusal K (seen m) (solve (search-of k (length ws) (length ss)))) refl)
     where
       go : (o : Option Fault) → refusal K (seen m) (solve (search-of k (length ws) (length ss))) ≡ o
           → GoesOn K m (solve-event (search-of k (length ws) (length ss)) (named K choice k m p) (solved-by K choice k m p o ws ss .answer) ∷ []) (solved-by K choice k m p o ws ss .block)
       go (Some f) is = goes-on K m m (refused (solve (search-of k (length ws) (length ss))) f) few (is, refl)
       go None is =
           subst (λ e. GoesOn K m (e ∷ []) (after-search m (outcome K choice k m p))) (sym (found-event m (search-of k (length ws) (length ss)) (named K choice k m p) (outcome K choice k m p)))
-            (searched-on p (length ws) (length ss) few flags is)
+          (searched-on p (length ws) (length ss) few flags is)

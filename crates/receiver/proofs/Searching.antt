@@ -24,7 +24,7 @@ use Rattle.method.specs.Stopping.{Stopping, NamedInTurn}
 use Rattle.receiver.specs.declared.block.Out.the-variants.{Nothing, Full}
 use Rattle.receiver.specs.Calls.{Search, refusal}
 use Rattle.receiver.specs.Calls.Call.{solve}
-use Rattle.receiver.specs.History.{Opened, Event, Told, after, told, borne, view, Agrees, Found, Bears, Searched, answer, pivots} 
+use Rattle.receiver.specs.History.{Opened, Event, Told, after, told, borne, view, Agrees, Found, Bears, Searched, answer, pivots}
 use Rattle.receiver.specs.History as history
 use Rattle.receiver.specs.History.Event.{refused, searched}
 use Rattle.receiver.specs.Blocks.{Block, seen}
@@ -54,6 +54,7 @@ module _ {S : Type 0} (K : Kind S) {o : Opened} {t : Told S} {m : Block S} (d : 
     where
       sized : length (take (m .n) (m .received)) ≡ m .n
       sized = length-take-le (m .n) (m .received) (d .room)
+
       go : (b : Bool) → leb (m .n) c ≡ b → has (missing (take (m .n) (m .received))) c ≡ (ltb c (o .places) && not (borne (t .packets) c))
       go false e =
           let lt : c < m .n = leb-false _ _ e in
@@ -77,10 +78,10 @@ module _ {S : Type 0} (K : Kind S) {o : Opened} {t : Told S} {m : Block S} (d : 
     agreeing w f = record {
       codeword = f .codeword;
       agrees = λ c is.
-        let lt = marks-within (m .n) (m .received) c is in
-        some-bears (t .packets) c (sym (d .marked c lt) ∙ sym (marks-below (m .n) (m .received) c lt) ∙ is)
+          let lt = marks-within (m .n) (m .received) c is in
+          some-bears (t .packets) c (sym (d .marked c lt) ∙ sym (marks-below (m .n) (m .received) c lt) ∙ is)
           (all-both (λ q u e at. subst (λ p. getD w p (K .zero) ≡ getD (take (m .n) (m .table)) p (K .zero)) at
-            (e ∙ sym (u .symbol-is) ∙ sym (getD-take (m .n) (m .table) (q .place) (K .zero) (u .below)))) (t .packets) (d .kept) (f .has-each));
+          (e ∙ sym (u .symbol-is) ∙ sym (getD-take (m .n) (m .table) (q .place) (K .zero) (u .below)))) (t .packets) (d .kept) (f .has-each));
     }
 
     -- an answer that tells exactly what agrees with the block tells exactly what agrees with the packets taken
@@ -116,17 +117,20 @@ module _ {S : Type 0} (K : Kind S) {o : Opened} {t : Told S} {m : Block S} (d : 
   search-true s cs x reached exact counted turn stop =
       let a = no-cause _ _ _ reached in
       let wide = eqb-true _ _ (not-false _ (no-cause _ _ _ (a .1) .0)) in
-      let how = found-right (s .code) x exact in
-      (record {
-        reached = sym (by-table K d (solve s)) ∙ reached;
-        under = under K d;
-        none-when = how .0 .0;
-        one-when = how .0 .1;
-        several-when = how .0 .2;
-        bears = how .1;
-        pivots-named = counted;
-        named-in-turn = named-on (s .code) _ _ missing-same cs turn;
-        pivots-none =
-          (λ e. no-same (stopping-on (s .code) _ _ missing-same) (stopping-back (s .code) _ _ missing-same) (stop .0 e),
-           λ g. stop .1 (no-same (stopping-back (s .code) _ _ missing-same) (stopping-on (s .code) _ _ missing-same) g)) },
-       search-tied (s .code) s cs x refl wide exact)
+      let how = found-right (s .code) x exact in (
+        record {
+          reached = sym (by-table K d (solve s)) ∙ reached;
+          under = under K d;
+          none-when = how .0 .0;
+          one-when = how .0 .1;
+          several-when = how .0 .2;
+          bears = how .1;
+          pivots-named = counted;
+          named-in-turn = named-on (s .code) _ _ missing-same cs turn;
+          pivots-none = (
+            λ e. no-same (stopping-on (s .code) _ _ missing-same) (stopping-back (s .code) _ _ missing-same) (stop .0 e),
+            λ g. stop .1 (no-same (stopping-back (s .code) _ _ missing-same) (stopping-on (s .code) _ _ missing-same) g),
+          );
+        },
+        search-tied (s .code) s cs x refl wide exact,
+      )

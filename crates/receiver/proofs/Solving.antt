@@ -118,13 +118,13 @@ module _ {S P : Type 0} (K : Kind S) (choice : Matrix → Choice P) (k : Matrix)
       let rows = final K (choice k) k got (take (m .n) (m .table)) p .rows in
       let sized : length got ≡ m .n = length-take-le (m .n) (m .received) (omega (arith, few, flags)) in
       let side : (c : ℕ) → c < length got → symbol-at K f ss′ c ≡ row-for K c rows .right =
-            λ c lt. subst (λ j. symbol-at K f ss′ c ≡ row-for K c (final K (choice k) k (take j (m .received)) (take (m .n) (m .table)) p .rows) .right) wide (left c (omega (arith, few, sized, lt))) in
+      λ c lt. subst (λ j. symbol-at K f ss′ c ≡ row-for K c (final K (choice k) k (take j (m .received)) (take (m .n) (m .table)) p .rows) .right) wide (left c (omega (arith, few, sized, lt))) in
       fill-same (symbol-at K f ss′) (λ c. row-for K c rows .right) got (m .table) side
       ∙ fill-places (λ c. row-for K c rows .right) (K .zero) got (m .table) (omega (arith, sized, fits))
       ∙ (λ i. table (sized i) (λ c. cond (getD got c false) (getD (m .table) c (K .zero)) (row-for K c rows .right)) ++ drop (sized i) (m .table))
       ∙ ap (λ ys. ys ++ drop (m .n) (m .table)) (table-same (m .n) _ _ (λ c lt. ap (λ x. cond (getD got c false) x (row-for K c rows .right)) (sym (getD-take (m .n) (m .table) c (K .zero) lt)))
-        ∙ ap (λ n. table n (λ c. cond (has got c) (getD (take (m .n) (m .table)) c (K .zero)) (row-for K c rows .right))) (sym wide)
-        ∙ sym (one-filled K (choice k) k got (take (m .n) (m .table)) p v a w is))
+      ∙ ap (λ n. table n (λ c. cond (has got c) (getD (take (m .n) (m .table)) c (K .zero)) (row-for K c rows .right))) (sym wide)
+      ∙ sym (one-filled K (choice k) k got (take (m .n) (m .table)) p v a w is))
 
   pub solve-granted : (f : Seen) (xs : List S) → m .n ≤ length (m .table) → m .n ≤ 512 → length (m .received) ≡ 512 → length ss′ ≡ length ss
       → Sought K choice k m p p′ ws ws′ ss ss′ (Ok f) → xs ≡ fill-missing (symbol-at K f ss′) (take (m .n) (m .received)) (m .table)
@@ -151,6 +151,7 @@ module _ {S P : Type 0} (K : Kind S) (choice : Matrix → Choice P) (k : Matrix)
       kept : (f : Fault) → (_≡_ {A = Result Seen Unsolved} (Err u) (Err (unsolved.Refused f))) × (p′ ≡ p) × (ws′ ≡ ws) × (ss′ ≡ ss)
           → record { answer = Err u; block = m; policy = p′; words = ws′; sides = ss′ } ≡ solved-by K choice k m p (Some f) ws ss
       kept f v = λ i. record { answer = Err (ap (why u) (v .0) i); block = m; policy = v .1 i; words = v .2 i; sides = v .3 i }
+
       go : (out same : Bool) → eqb (k .width) (m .n) ≡ same
           → Sought-by K choice k m (cond out (Some (fault.PermitOut (m .stamp))) (cond (not same) (Some (fault.OtherWidth (k .width))) None)) p p′ ws ws′ ss ss′ (Err u)
           → record { answer = Err u; block = m; policy = p′; words = ws′; sides = ss′ } ≡ solved-by K choice k m p (cond out (Some (fault.PermitOut (m .stamp))) (cond (not same) (Some (fault.OtherWidth (k .width))) (cond (short (height k) (length ws) (length ss)) (Some (fault.ShortMemory (height k))) None))) ws ss
@@ -160,6 +161,7 @@ module _ {S P : Type 0} (K : Kind S) (choice : Matrix → Choice P) (k : Matrix)
         where
           l : Looked K choice k (m .received) (take (m .n) (m .table)) p ws ss p′ ws′ ss′ (Err (v .0))
           l = v .2
+
           ended : (c : Bool) → first-of (answers.causes k (length (take (m .n) (m .table))) (length ws) (length ss)) ≡ cond c (Some (lacks.ShortMemory (height k))) None
               → record { answer = Err u; block = m; policy = p′; words = ws′; sides = ss′ } ≡ solved-by K choice k m p (cond c (Some (fault.ShortMemory (height k))) None) ws ss
           ended true is =

@@ -60,9 +60,9 @@ pivots (several-codewords r k) = r .pivots
 
 pub data Event (S : Type 0) : Type 0 where
   refused : Call S → Fault → Event S
-  unread : (stamp length : ℕ) → Event S                        -- bytes of no packet's length
+  unread : (stamp length : ℕ) → Event S  -- bytes of no packet's length
   received : (number stamp place : ℕ) (symbol : S) → Event S
-  searched : Search → (named : List ℕ) → Found → Event S       -- with the columns that its policy named
+  searched : Search → (named : List ℕ) → Found → Event S  -- with the columns that its policy named
   shown : Permit → (place : ℕ) (symbol : S) → Event S
   closed : Permit → Event S
   renewed : (stamp : ℕ) → Event S
@@ -78,10 +78,10 @@ pub record Solved (S : Type 0) : Type 0 where
   pub code : Matrix
 
 pub record Told (S : Type 0) : Type 0 where
-  pub stamp : ℕ                     -- handed to open or to the last granted renew
-  pub packets : List (Packet S)     -- taken since then
-  pub out : Out                     -- whether a solve was granted and no close since
-  pub last : Option (Solved S)      -- the last granted solve
+  pub stamp : ℕ  -- handed to open or to the last granted renew
+  pub packets : List (Packet S)  -- taken since then
+  pub out : Out  -- whether a solve was granted and no close since
+  pub last : Option (Solved S)  -- the last granted solve
 
 abbrev pub after : {S : Type 0} → Event S → Told S → Told S
 after (refused c f) t = t

@@ -17,11 +17,11 @@ use Rattle.std.specs.declared.result.Result.{Result}
 use Rattle.std.specs.declared.result.Result.the-variants.{Ok, Err}
 use Rattle.packets.specs.Packets.{block-of, number-of, cell-of}
 use Rattle.packets.specs.declared.fault.HeaderFault.the-variants.{Length}
-use Rattle.symbols.specs.Cells.{cell-kind} 
+use Rattle.symbols.specs.Cells.{cell-kind}
 use Rattle.symbols.specs.Cells as cells
 use Rattle.symbols.specs.declared.kinds.Cell.{Cell}
 use Rattle.receiver.specs.declared.run.Layer.{Layer}
-use Rattle.receiver.specs.declared.run.Layer.the-variants.{Header} 
+use Rattle.receiver.specs.declared.run.Layer.the-variants.{Header}
 use Rattle.receiver.specs.declared.run.Layer.the-variants as layer
 use Rattle.receiver.specs.declared.run.Stopped.{Stopped}
 use Rattle.receiver.specs.Calls.Call.{receive}

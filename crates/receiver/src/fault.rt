@@ -60,7 +60,10 @@ impl Fault {
             Fault::BlockNumber(b) | Fault::OtherBlock(b) => b as u64,
             Fault::TableLength(n) | Fault::OtherWidth(n) | Fault::ShortMemory(n) => n as u64,
             Fault::NoPlace(p) | Fault::Received(p) => p as u64,
-            Fault::PermitOut(s) | Fault::OtherStamp(s) | Fault::NotLater(s) | Fault::NotItsPermit(s) => s as u64,
+            Fault::PermitOut(s)
+            | Fault::OtherStamp(s)
+            | Fault::NotLater(s)
+            | Fault::NotItsPermit(s) => s as u64,
         }
     }
 }

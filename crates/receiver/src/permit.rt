@@ -20,7 +20,11 @@ impl Drop for Permit {
     fn drop(self)
         requires { ⌜ ⊥ ⌝ }
     {
-        let Permit { number: _, stamp: _, report: _ } = self;
+        let Permit {
+            number: _,
+            stamp: _,
+            report: _,
+        } = self;
     }
 }
 
@@ -28,12 +32,20 @@ impl Permit {
     pub(crate) fn new(number: u32, stamp: Stamp, report: Report) -> Permit
         ensures { λ r. ⌜ r ≡ record { number = number; stamp = stamp; report = report } ⌝ }
     {
-        Permit { number, stamp, report }
+        Permit {
+            number,
+            stamp,
+            report,
+        }
     }
 
     // Takes the permit apart; only a block that it belongs to does so.
     pub(crate) fn spend(self) {
-        let Permit { number: _, stamp: _, report: _ } = self;
+        let Permit {
+            number: _,
+            stamp: _,
+            report: _,
+        } = self;
     }
 
     pub fn number(&self) -> u32

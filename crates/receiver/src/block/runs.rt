@@ -72,5 +72,9 @@ fn packet_end(at: usize, length: usize) -> usize
     requires { ⌜ at ≤ length ⌝ }
     ensures { λ r. ⌜ r ≡ at + min 68 (length - at) ⌝ }
 {
-    if length - at < PACKET { length } else { at + PACKET }
+    if length - at < PACKET {
+        length
+    } else {
+        at + PACKET
+    }
 }

@@ -35,7 +35,13 @@ fn unsolved(e: Unfound) -> Unsolved
 
 impl<'a, S: Symbol> Block<'a, S> {
     // Searches; with one codeword the right sides are left to be read out.
-    fn seek<C: Code, P: Policy>(&self, code: &C, policy: &mut P, words: &mut [u64], sides: &mut [S]) -> Result<Found, Unsolved>
+    fn seek<C: Code, P: Policy>(
+        &self,
+        code: &C,
+        policy: &mut P,
+        words: &mut [u64],
+        sides: &mut [S],
+    ) -> Result<Found, Unsolved>
         ensures { λ r. ⌜ Sought (S·Symbol .kind) (P·Policy .choice) (C·Rows .matrix (now (code .entry))) (model (now (self .entry))) (now (policy .entry)) (now (policy .exit)) (now (words .entry)) (now (words .exit)) (now (sides .entry)) (now (sides .exit)) r ⌝ }
     {
         if self.marks.out.is_out() {
@@ -46,7 +52,14 @@ impl<'a, S: Symbol> Block<'a, S> {
             return Err(Unsolved::Refused(Fault::OtherWidth(n)));
         }
         let table = &*self.table;
-        match search::look(code, policy, &table[0..n], &self.marks.received, words, sides) {
+        match search::look(
+            code,
+            policy,
+            &table[0..n],
+            &self.marks.received,
+            words,
+            sides,
+        ) {
             Ok(found) => Ok(found),
             Err(e) => Err(unsolved(e)),
         }
@@ -78,7 +91,13 @@ impl<'a, S: Symbol> Block<'a, S> {
         Permit::new(self.marks.number, self.marks.stamp, found.report())
     }
 
-    fn work_out<C: Code, P: Policy>(&mut self, code: &C, policy: &mut P, words: &mut [u64], sides: &mut [S]) -> Result<Permit, Unsolved>
+    fn work_out<C: Code, P: Policy>(
+        &mut self,
+        code: &C,
+        policy: &mut P,
+        words: &mut [u64],
+        sides: &mut [S],
+    ) -> Result<Permit, Unsolved>
         ensures lent { λ _. ⌜ name (now (self .exit) .table) ≡ name (now (self .entry) .table) ⌝ }
         ensures done { λ r. ⌜ record { answer = r; block = model (now (self .exit)); policy = now (policy .exit); words = now (words .exit); sides = now (sides .exit) } ≡ solved (S·Symbol .kind) (P·Policy .choice) (C·Rows .matrix (now (code .entry))) (model (now (self .entry))) (now (policy .entry)) (now (words .entry)) (now (sides .entry)) ⌝ }
     {
@@ -89,7 +108,13 @@ impl<'a, S: Symbol> Block<'a, S> {
     }
 
     // Searches for the one codeword that agrees with what was received, fills the missing places and gives a permit.
-    pub fn solve<C: Code, P: Policy>(&mut self, code: &C, policy: &mut P, words: &mut [u64], sides: &mut [S]) -> Result<Permit, Unsolved>
+    pub fn solve<C: Code, P: Policy>(
+        &mut self,
+        code: &C,
+        policy: &mut P,
+        words: &mut [u64],
+        sides: &mut [S],
+    ) -> Result<Permit, Unsolved>
         ensures lent { λ _. ⌜ name (now (self .exit) .table) ≡ name (now (self .entry) .table) ⌝ }
         ensures step { λ r. ⌜ record { answer = r; block = model (now (self .exit)); policy = now (policy .exit); words = now (words .exit); sides = now (sides .exit) } ≡ solved (S·Symbol .kind) (P·Policy .choice) (C·Rows .matrix (now (code .entry))) (model (now (self .entry))) (now (policy .entry)) (now (words .entry)) (now (sides .entry)) ⌝ }
         ensures history { λ r. ⌜ GoesOn (S·Symbol .kind) (model (now (self .entry))) (solve-event (search-of (C·Rows .matrix (now (code .entry))) (length (now (words .entry))) (length (now (sides .entry)))) (named (S·Symbol .kind) (P·Policy .choice) (C·Rows .matrix (now (code .entry))) (model (now (self .entry))) (now (policy .entry))) r ∷ []) (model (now (self .exit))) ⌝ }

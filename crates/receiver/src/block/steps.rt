@@ -36,10 +36,18 @@ impl<'a, S: Symbol> Block<'a, S> {
     pub(crate) fn owns(&self, permit: &Permit) -> bool
         ensures { λ r. ⌜ r ≡ own (seen (model (now (self .entry)))) (now (permit .entry)) ⌝ }
     {
-        self.marks.out.is_out() && permit.number() == self.marks.number && permit.stamp() == self.marks.stamp
+        self.marks.out.is_out()
+            && permit.number() == self.marks.number
+            && permit.stamp() == self.marks.stamp
     }
 
-    pub(crate) fn take(&mut self, number: u32, stamp: Stamp, place: u32, symbol: S) -> Result<(), Fault>
+    pub(crate) fn take(
+        &mut self,
+        number: u32,
+        stamp: Stamp,
+        place: u32,
+        symbol: S,
+    ) -> Result<(), Fault>
         ensures lent { λ _. ⌜ name (now (self .exit) .table) ≡ name (now (self .entry) .table) ⌝ }
         ensures step { λ r. ⌜ Step (S·Symbol .kind) (model (now (self .entry))) (receive-event number stamp place symbol r) (model (now (self .exit))) ⌝ }
     {
@@ -112,7 +120,10 @@ impl<'a, S: Symbol> Block<'a, S> {
         ensures back { λ r. ⌜ Cases r (λ u. Unit {0}) (λ e. e .permit ≡ permit) ⌝ }
     {
         if !self.owns(&permit) {
-            return Err(Unclosed { stamp: self.marks.stamp, permit });
+            return Err(Unclosed {
+                stamp: self.marks.stamp,
+                permit,
+            });
         }
         permit.spend();
         self.clear_missing();
@@ -154,10 +165,16 @@ impl<'a, S: Symbol> Block<'a, S> {
         ensures values { λ r. ⌜ model r ≡ opened (S·Symbol .kind) number stamp (now (table .entry)) ⌝ }
     {
         match open_fault(number, stamp, table.len()) {
-            Some(fault) => Block { table, marks: blank(0, 0, fault.number(), fault.value()) },
+            Some(fault) => Block {
+                table,
+                marks: blank(0, 0, fault.number(), fault.value()),
+            },
             None => {
                 let n = table.len();
-                let mut block = Block { table, marks: blank(number, n, 0, 0) };
+                let mut block = Block {
+                    table,
+                    marks: blank(number, n, 0, 0),
+                };
                 block.begin(stamp);
                 block
             }
@@ -174,7 +191,15 @@ fn blank(number: u32, n: usize, refusal: u8, value: u64) -> Marks
     requires { ⌜ n ≤ 512 ⌝ }
     ensures { λ r. ⌜ Blank r number n refusal value ⌝ }
 {
-    Marks { number, stamp: 0, n, received: [false; 512], out: Out::Nothing, refusal, value }
+    Marks {
+        number,
+        stamp: 0,
+        n,
+        received: [false; 512],
+        out: Out::Nothing,
+        refusal,
+        value,
+    }
 }
 
 // Why an open is refused, if it is.

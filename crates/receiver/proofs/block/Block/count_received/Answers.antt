@@ -10,6 +10,6 @@ loop-i-again g c =
     let rs = c .args .self .now .marks .received in
     let i = c .loop-i .i in
     elim (c .if-self-i .came) [
-      then-self-i w ↦ let e = countBy-more-yes (λ b. b) rs i _ (omega arith) (w .if-self-i .taken) in (omega (arith, w .count-is), omega (arith, w .count-is, e))
-    | else-self-i w ↦ let e = countBy-more-no (λ b. b) rs i _ (omega arith) (w .if-self-i .left) in (omega (arith, w .count-is), omega (arith, w .count-is, e))
+      | then-self-i w ↦ let e = countBy-more-yes (λ b. b) rs i _ (omega arith) (w .if-self-i .taken) in (omega (arith, w .count-is), omega (arith, w .count-is, e))
+      | else-self-i w ↦ let e = countBy-more-no (λ b. b) rs i _ (omega arith) (w .if-self-i .left) in (omega (arith, w .count-is), omega (arith, w .count-is, e))
     ]

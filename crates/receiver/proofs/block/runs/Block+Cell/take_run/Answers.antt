@@ -21,7 +21,7 @@ returns-in-Err c =
     record {
       lent = c .in-Err .ensures tt .lent ∙ inv .2;
       runs = inv .3 _ _ (run-stopped s _ _ (drop at bs) (c .loop-at .taken) at (c .in-Err .fault) some
-        (subst (λ p. PacketStep {U = Unit {0}} (model (c .loop-at .self)) s p (Err (c .in-Err .fault)) (model (c .take-packet .last .self))) cut (c .in-Err .ensures tt .step)));
+          (subst (λ p. PacketStep {U = Unit {0}} (model (c .loop-at .self)) s p (Err (c .in-Err .fault)) (model (c .take-packet .last .self))) cut (c .in-Err .ensures tt .step)));
     }
 
 pub loop-at-again : need.loop-at-again
@@ -34,11 +34,14 @@ loop-at-again c =
     let after = model (c .take-packet .last .self) in
     let step = subst (λ p. PacketStep (model (c .loop-at .self)) s p (Ok (tt {0})) after) (packet-at at end bs (inv .0) (c .packet-end-end .ensures)) (c .in-Ok .ensures tt .step) in
     let some : 0 < length (drop at bs) = omega (arith, length-drop at bs, c .loop-at-test .taken) in
-    let e : end ≡ at + 68 = omega (arith, c .packet-end-end .ensures, step .fault, length-take 68 (drop at bs), length-drop at bs) in
-    (omega (arith, c .packet-end-end .ensures, inv .0), omega (arith, e, inv .1), c .in-Ok .ensures tt .lent ∙ inv .2,
-     λ r m runs. inv .3 r m (run-took s _ after m (drop at bs) (c .loop-at .taken) at r some step
-       (subst (λ xs. Runs s after (packets-in xs) (c .loop-at .taken + 1) (at + 68) r m) (sym (drop-drop 68 at bs))
-         (subst (λ j. Runs s after (packets-in (drop j bs)) (c .loop-at .taken + 1) j r m) e runs))))
+    let e : end ≡ at + 68 = omega (arith, c .packet-end-end .ensures, step .fault, length-take 68 (drop at bs), length-drop at bs) in (
+      omega (arith, c .packet-end-end .ensures, inv .0),
+      omega (arith, e, inv .1),
+      c .in-Ok .ensures tt .lent ∙ inv .2,
+      λ r m runs. inv .3 r m (run-took s _ after m (drop at bs) (c .loop-at .taken) at r some step
+          (subst (λ xs. Runs s after (packets-in xs) (c .loop-at .taken + 1) (at + 68) r m) (sym (drop-drop 68 at bs))
+          (subst (λ j. Runs s after (packets-in (drop j bs)) (c .loop-at .taken + 1) j r m) e runs))),
+    )
 
 pub returns : need.returns
 returns c =

@@ -18,7 +18,7 @@ Inv-loop-at l =
     × (l .taken ≤ l .at)
     × (name (l .self .table) ≡ name (l .entry .self .table))
     × ((r : Result ℕ Stopped) (m : Block Cell) → Runs (l .stamp) (model (l .self)) (packets-in (drop (l .at) (l .bytes))) (l .taken) (l .at) r m
-        → Runs (l .stamp) (model (l .entry .self)) (packets-in (l .bytes)) 0 0 r m)
+    → Runs (l .stamp) (model (l .entry .self)) (packets-in (l .bytes)) 0 0 r m)
 
 abbrev pub μ-loop-at : given.MeasureT-loop-at
 μ-loop-at l = length (l .bytes) - l .at
