@@ -1,9 +1,9 @@
 -- What a walk over a set's words finds.
-use Rattle.std.proofs.Common.{◌≡◌, ℕ, ◌+◌, ◌-◌, ◌*◌, ◌/◌, ◌%◌, ◌^◌, ◌<◌, ◌≤◌, Bool, true, false, ◌&&◌, eqb, leb, ◌⊎◌, List, length, get_or, Some, None, Option, sym, refl, ap, ◌∙◌, subst, ap₂, inl, inr, ⊎_elim, div-one, arith}
+use Rattle.std.proofs.Common.{◌≡◌, ℕ, ◌+◌, ◌-◌, ◌*◌, ◌/◌, ◌%◌, ◌^◌, ◌<◌, ◌≤◌, Bool, true, false, ◌&&◌, leb, ◌⊎◌, List, length, get_or, Some, None, Option, sym, refl, ap, ◌∙◌, subst, ap₂, inl, inr, ⊎_elim, div-one, arith}
 use lib.Count.{count_trailing_zeros}
 use Rattle.std.proofs.lemmas.Bool.{cases_lt, cases_eq, both_ways, eq-eqb, ne_eqb, le-leb, lt-leb, and_from, and_left, and_right}
 use Rattle.bits.specs.Sets.{bit, differ, holds, Least, Alone, Flipped, from_on}
-use Rattle.bits.proofs.Word.{bit_shifted, bit_high, bit_zero, lowest_set, lowest_below, lowest_lt}
+use Rattle.bits.proofs.Word.{bit_shifted, bit_high, bit_zero, lowest_set, lowest_below}
 use Rattle.bits.proofs.Held.{differ_none, holds_past}
 
 -- tests that agree have one least number

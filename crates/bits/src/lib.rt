@@ -1,4 +1,6 @@
 // Sets of numbers as the bits of 64-bit words, and rows of such sets in one slice.
+#![tactic(auto)]
+
 mod find;
 mod row;
 mod set;

@@ -6,7 +6,7 @@
 --   member        whether a column is listed
 --   Apart         pairwise different
 --   Row, Lawful   what every code keeps: its bounds, and each row different columns below the width
-use Rattle.std.specs.Prelude.{◌≡◌, ℕ, ◌+◌, ◌<◌, ◌≤◌, Bool, true, false, ◌||◌, List, [], ◌∷◌, length, sum_by, Option, ◌==◌, slice_index_or}
+use Rattle.std.specs.Prelude.{◌≡◌, ℕ, ◌<◌, ◌≤◌, Bool, false, ◌||◌, List, [], ◌∷◌, length, sum_by, Option, ◌==◌, slice_index_or}
 use Rattle.std.specs.List.{slice_get, AllByRecursion as All}
 
 pub record Matrix : Type 0 where

@@ -4,7 +4,7 @@
 --   meaning                the cause that a refusal stands for
 --   told                   an answer, its refusal read as its cause
 --   judged                 the order of judging: sizes, then the first bad place, then the number of ones
-use Rattle.std.specs.Prelude.{ℕ, Bool, true, false, cond, List, [], ◌∷◌, Some, None, Ok, Err, Option, Result, nat_le}
+use Rattle.std.specs.Prelude.{ℕ, Bool, true, false, cond, [], ◌∷◌, Some, None, Ok, Err, Option, Result, nat_le}
 use Rattle.refusals.specs.Refusals.{refusal}
 pub use Rattle.refusals.specs.Refusals.{Refusal as Cause}
 use Rattle.codes.specs.declared.refusal.Refusal.{Refusal}

@@ -1,7 +1,6 @@
 -- The sizes of a code, as one value.
 --
 --   shape_of      the numbers of rows, columns and ones of a matrix
-use Rattle.std.specs.Prelude.{ℕ}
 use Rattle.codes.specs.Matrix.{Matrix, height, ones}
 use Rattle.codes.specs.declared.shape.Shape.{Shape}
 

@@ -1,4 +1,6 @@
 // Parity-check codes: the interface of every code, and the code read from the caller's records.
+#![tactic(auto)]
+
 mod code;
 mod listed;
 mod membership;

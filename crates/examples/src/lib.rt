@@ -1,4 +1,6 @@
 // Worked examples over the definitions of the whole receiver: each function carries a table of them.
+#![tactic(auto)]
+
 ghost use Rattle.examples.specs.Worked.{Worked-examples};
 ghost use Rattle.examples.specs.Telling.{Telling-examples};
 

@@ -1,4 +1,6 @@
 // Layers over other codes: interleaved, and stacked.
+#![tactic(auto)]
+
 mod interleaved;
 mod stacked;
 #[cfg(test)]

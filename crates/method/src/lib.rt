@@ -1,5 +1,7 @@
 // The elimination method. It stands in specs/ as a definition; each function here carries a theorem above it,
 // for every symbol kind that keeps its laws, every lawful code and every lawful policy.
+#![tactic(auto)]
+
 ghost use Rattle.method.specs.Theorems.{Tells_exactly, Pivots_tell, Named_in_turn, Policy_alters_no_answer, Shortfall_by_places_alone, Doubles, Final_state, Policies-name};
 
 use symbols::Symbol;

@@ -1,5 +1,5 @@
 -- The figure lies between: what `IsFigure` says of the quotient.
-use Rattle.std.proofs.Common.{◌≡◌, ℕ, ◌+◌, ◌*◌, ◌/◌, ◌<◌, sym, add-mul, one-mul, div-mul-le_self, arith}
+use Rattle.std.proofs.Common.{ℕ, ◌*◌, ◌/◌, ◌<◌, sym, add-mul, one-mul, div-mul-le_self, arith}
 use native.Mathlib.Nat.{lt-div-mul-add, div-eq_of_lt-le}
 use Rattle.packets.specs.Figure.{IsFigure}
 

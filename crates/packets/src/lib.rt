@@ -1,4 +1,6 @@
 // Packets: the header reader and writer, the cell behind a header, and the reception figure.
+#![tactic(auto)]
+
 mod fault;
 mod figure;
 mod packet;

@@ -1,4 +1,6 @@
 // The panel's program: reads a script from standard input, and prints the answer to each call.
+#![tactic(auto)]
+
 use piles::{Pile, PolicyName, read_pile, read_policy, read_row, take_code, tell_row};
 use script::{answer_line, is_word, refuse_line, split_word};
 use std::alloc::{AllocError, Global};

@@ -5,7 +5,7 @@
 --   base_matrix    what the code at the bottom of a pile means
 --   base_lawful    it keeps the rules of every code (a lemma)
 --   outcome        the answer of a making, with the code that it left
-use Rattle.std.specs.Prelude.{ℕ, Bool, true, false, cond, Ok, Err, vec_items, Result}
+use Rattle.std.specs.Prelude.{Bool, true, false, Ok, Err, vec_items, Result}
 use Rattle.codes.specs.Listings.{listed_matrix}
 use Rattle.codes.specs.Matrix.{Matrix, Lawful}
 use Rattle.codes.specs.RecordLaws.{listed_lawful}

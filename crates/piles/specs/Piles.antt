@@ -6,7 +6,7 @@
 --   Done           a task was done with the code, where there is one; where there is none, the refusal has its cause and the task is as it was
 --   shape_told     the sizes of that code, or why there is none
 --   Told           an answer tells this of the code, where there is one, and else the cause
-use Rattle.std.specs.Prelude.{◌≡◌, ℕ, cond, Ok, Err, Result}
+use Rattle.std.specs.Prelude.{◌≡◌, cond, Ok, Err, Result}
 use Rattle.codes.specs.Matrix.{Matrix}
 use Rattle.codes.specs.Refusals.{Cause, meaning, bad_shape}
 use Rattle.codes.specs.Shapes.{shape_of}

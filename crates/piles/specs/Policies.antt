@@ -7,7 +7,7 @@ use Rattle.std.specs.Prelude.{ℕ, cond, List, Some, None, codes, Option}
 use Rattle.std.specs.Option.{option_map}
 use Rattle.std.specs.Str.{bytes_eq}
 use Rattle.script.specs.Calls.{only}
-use Rattle.script.specs.Words.{word, past}
+use Rattle.script.specs.Words.{word}
 use Rattle.piles.specs.declared.policy.PolicyName.{PolicyName}
 use Rattle.piles.specs.declared.policy.PolicyName.TheVariants.{First, Heaviest, ComponentFirst, ComponentHeaviest}
 

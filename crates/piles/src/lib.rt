@@ -1,4 +1,6 @@
 // Codes and policies that are known only when the program runs: how a line is read as a pile of codes, how a task is done with its code, and which policy a line names.
+#![tactic(auto)]
+
 mod base;
 mod calls;
 mod code;

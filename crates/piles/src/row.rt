@@ -17,7 +17,7 @@ pub(crate) struct AskRow {
 
 // The columns of row r, in their order.
 fn columns<C: Code>(heap: Global, code: &C, r: usize) -> Result<Vec<usize>, AllocError>
-    ensures* { λ v. ⌜ IfOk v (λ v. v.items ≡ row_at (C.Rows.matrix code.now) r) ⌝ }
+    ensures { IfOk result (λ v. v.items ≡ row_at (C.Rows.matrix code.now) r) }
 {
     let mut columns = Vec::new(heap);
     for i in 0..code.weight(r) {

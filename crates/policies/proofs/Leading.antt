@@ -4,7 +4,7 @@ use Rattle.std.specs.List.{AllByRecursion as All}
 use Rattle.std.proofs.lemmas.Bool.{cases_lt, cases_eq, both_ways, eq-eqb, eqb-true, and_parts, and_from}
 use Rattle.codes.specs.Matrix.{Matrix, Lawful, height}
 use Rattle.method.specs.Sets.{has, bump}
-use Rattle.method.specs.Choices.{Names, count_to, column_weight, heaviest, joins, label, labels, in_set, size_of, top, largest, largest_of, or_below, component}
+use Rattle.method.specs.Choices.{Names, count_to, column_weight, heaviest, joins, label, labels, in_set, size_of, top, largest, largest_of, or_below}
 use Rattle.method.proofs.Marks.{has_below}
 use Rattle.method.proofs.Tops.{Best, top_best, top_names}
 use Rattle.policies.specs.Relations.{Linked, Joined, Connected, size, Leads, Heavy, Component-leads}

@@ -8,7 +8,7 @@
 --   Root          r is the root of c's set
 --   some_of       whether a list has an element
 --   Drawn         the array stands for the labels that the pairs give to the columns below n, and any tells whether there is a pair
-use Rattle.std.specs.Prelude.{◌≡◌, ℕ, ◌<◌, ◌≤◌, Bool, true, false, List, [], ◌∷◌, length, set, slice_set}
+use Rattle.std.specs.Prelude.{◌≡◌, ℕ, ◌<◌, ◌≤◌, Bool, true, false, List, [], ◌∷◌, length, slice_set}
 use Rattle.method.specs.Choices.{merged, label, labels}
 use Rattle.policies.specs.Numbers.{at}
 

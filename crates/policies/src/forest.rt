@@ -23,7 +23,7 @@ pub(crate) fn alone() -> Numbers
 // Points column c at what stands two steps above it.
 fn lift(up: &mut Numbers, c: usize) -> usize
     requires falling { Falling up.old }
-    requires c_bound { c < 512 }
+    requires column { c < 512 }
     ensures { Lifted up.old up.new c result }
 {
     let above = up[up[c] as usize];
@@ -34,7 +34,7 @@ fn lift(up: &mut Numbers, c: usize) -> usize
 // The root of c's set; the way up to it is halved.
 fn find(up: &mut Numbers, c: usize) -> usize
     requires falling { Falling up.old }
-    requires c_bound { c < 512 }
+    requires column { c < 512 }
     ensures { Root up.old up.new c result }
 {
     let mut k = c;
@@ -47,8 +47,8 @@ fn find(up: &mut Numbers, c: usize) -> usize
 // Joins the sets of x and y under the lower root.
 pub(crate) fn join(up: &mut Numbers, x: usize, y: usize)
     requires falling { Falling up.old }
-    requires x_bound { x < 512 }
-    requires y_bound { y < 512 }
+    requires first { x < 512 }
+    requires second { y < 512 }
     ensures { (f : ℕ → ℕ) → Forest up.old f → Forest up.new (joined f x y) }
 {
     let p = find(up, x);

@@ -1,4 +1,6 @@
 // Policies: which column a search takes as a pivot where peeling stalls.
+#![tactic(auto)]
+
 mod columns;
 mod component;
 mod first;

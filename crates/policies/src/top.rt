@@ -12,8 +12,8 @@ pub(crate) type Numbers = [u16; MAX_COLUMNS];
 
 // One more at place c.
 pub(crate) fn raise(counts: &mut Numbers, c: usize)
-    requires c_bound { c < 512 }
-    requires c_bound_2 { at counts.old c < 65535 }
+    requires column { c < 512 }
+    requires room { at counts.old c < 65535 }
     ensures { counts.new ≡ slice_set counts.old c (at counts.old c + 1) }
 {
     counts[c] += 1;
@@ -21,7 +21,7 @@ pub(crate) fn raise(counts: &mut Numbers, c: usize)
 
 // The choice so far, or the active column c where it is heavier.
 fn better(weights: &Numbers, best: Option<usize>, c: usize) -> Option<usize>
-    requires c_bound { c < 512 }
+    requires column { c < 512 }
     requires below { Below c best }
     ensures { result ≡ better (at weights.now) c true best }
 {

@@ -1,4 +1,6 @@
 // Quasi-cyclic codes: a matrix of square blocks, each empty or a turned identity, by its base entries.
+#![tactic(auto)]
+
 mod circulant;
 mod entries;
 #[cfg(test)]

@@ -1,4 +1,6 @@
 // The receiver: a block of packets over the caller's table, and the permit under which packets are handed out.
+#![tactic(auto)]
+
 mod block;
 mod fault;
 mod permit;

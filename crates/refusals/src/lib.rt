@@ -1,1 +1,2 @@
 // Refusals: what every call's contract says of them. This crate has definitions only.
+#![tactic(auto)]

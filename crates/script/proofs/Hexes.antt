@@ -2,7 +2,7 @@
 use Rattle.std.proofs.Common.{◌≡◌, ℕ, suc, ◌+◌, ◌*◌, ◌/◌, ◌%◌, ◌<◌, List, [], ◌∷◌, ◌++◌, length, get_or, drop, Some, None, Option, sym, refl, ap, ◌∙◌, append_assoc, arith}
 use Rattle.std.specs.Char.{digit_char}
 use Rattle.std.proofs.lemmas.Bool.Decides.{nat_tests}
-use Rattle.script.specs.Hex.{digit_value, byte_digits, byte_of, joined, before, digits_of, pairs_of, hex_of, bytes_of}
+use Rattle.script.specs.Hex.{digit_value, byte_of, joined, before, digits_of, pairs_of, hex_of, bytes_of}
 
 digit_back : (d : ℕ) → d < 16 → digit_value (digit_char d) ≡ Some d
 digit_back d small = grind (arith, nat_tests)

@@ -1,4 +1,6 @@
 // The script language: a line's words, what call they make, and the line that answers it.
+#![tactic(auto)]
+
 mod answer;
 mod call;
 mod hex;

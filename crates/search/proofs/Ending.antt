@@ -1,12 +1,11 @@
 -- The state at the end of a search, and what is told of it.
-use Rattle.std.proofs.Common.{◌≡◌, ℕ, ◌*◌, ◌<◌, ◌≤◌, Bool, true, false, List, [], ◌∷◌, length, get_or, take, replicate, is_some, Some, None, Ok, Err, Option, Result, sym, refl, ap, ◌∙◌, ap₂, true≢false, arith}
+use Rattle.std.proofs.Common.{◌≡◌, ℕ, ◌*◌, ◌<◌, ◌≤◌, Bool, true, false, List, [], ◌∷◌, length, get_or, replicate, is_some, Some, None, Ok, Err, Option, sym, refl, ap, ◌∙◌, ap₂, true≢false, arith}
 use mathlib.Core.Bool.{false≢true}
 use Rattle.std.proofs.lemmas.List.{length-take-le}
 use Rattle.symbols.specs.Kinds.{Kind}
 use Rattle.codes.specs.Matrix.{Matrix, height}
 use Rattle.method.specs.Sets.{lowest}
-use Rattle.method.specs.Method.{State, Choice, start, steps, settle, final, answer, answer_at, method, clash, filled, row_for}
-use Rattle.search.specs.declared.answer.Unfound.{Unfound}
+use Rattle.method.specs.Method.{Choice, start, steps, final, answer, answer_at, method, clash, filled, row_for}
 use Rattle.search.specs.declared.answer.Unfound.TheVariants.{NoCodeword, Several}
 use Rattle.search.specs.declared.found.Found.{Found}
 use Rattle.search.specs.declared.trail.Trail.{Trail}

@@ -1,16 +1,15 @@
 -- A row of a code read column by column.
-use Rattle.std.proofs.Common.{◌≡◌, ℕ, zero, suc, ◌+◌, ◌*◌, ◌/◌, ◌<◌, ◌≤◌, Bool, true, false, not, ◌||◌, eqb, ◌⊎◌, List, [], ◌∷◌, ◌++◌, length, get_or, take, set, Some, None, Option, sym, refl, ap, ◌∙◌, subst, ap₂, inl, inr, arith, length-append, length-set, get_or-set_other, get_or-set_same, below_more}
+use Rattle.std.proofs.Common.{◌≡◌, ℕ, zero, suc, ◌+◌, ◌*◌, ◌/◌, ◌<◌, ◌≤◌, Bool, true, false, not, ◌||◌, eqb, ◌⊎◌, List, [], ◌∷◌, ◌++◌, length, get_or, take, set, Some, None, Option, sym, refl, ap, ◌∙◌, ap₂, inl, inr, arith, length-append, length-set, get_or-set_other, get_or-set_same, below_more}
 use Rattle.std.specs.List.{slice_get, AllByRecursion as All}
-use Rattle.std.proofs.ByRecursion.{All-get_or}
-use Rattle.std.proofs.lemmas.List.{ext_get_or, take_more, take_more_set, take_all, get_or-take, length-take-le}
+use Rattle.std.proofs.lemmas.List.{ext_get_or, take_more, take_more_set}
 use Rattle.std.proofs.lemmas.Option.{slice_get-get_or}
 use Rattle.std.proofs.lemmas.Bool.{cases_eq, eq-eqb, ne_eqb}
 use Rattle.bits.specs.Sets.{holds, Put, row, put_row}
 use Rattle.bits.proofs.Rows.{row_put_same, row_put_other}
 use Rattle.symbols.specs.Kinds.{Kind}
-use Rattle.codes.specs.Matrix.{Matrix, Lawful, row_at, member}
+use Rattle.codes.specs.Matrix.{Matrix, member}
 use Rattle.codes.specs.Matrix.{Row as Lawful-row}
-use Rattle.method.specs.Sets.{has, bump, count, marks, kept_if, marked}
+use Rattle.method.specs.Sets.{has, count, marks, kept_if, marked}
 use Rattle.method.specs.Method.{missing}
 use Rattle.method.proofs.Counts.{count_clear, none_count, count_le}
 use Rattle.method.proofs.Marks.{has_missing, has_marks, length_table, marks_less, marks_none}

@@ -1,5 +1,5 @@
 -- One step, and steps to the end.
-use Rattle.std.proofs.Common.{◌≡◌, ℕ, suc, ◌+◌, ◌-◌, ◌<◌, ◌≤◌, Bool, true, false, not, eqb, List, [], ◌∷◌, map, length, is_some, Some, None, Option, sym, refl, ap, ◌∙◌, subst, arith}
+use Rattle.std.proofs.Common.{◌≡◌, ℕ, suc, ◌+◌, ◌-◌, Bool, true, false, not, eqb, List, [], ◌∷◌, map, length, is_some, Some, None, Option, sym, refl, ap, ◌∙◌, subst, arith}
 use Rattle.std.proofs.lemmas.Bool.{both_ways, true≢false, false≢true, ne_eqb}
 use Rattle.symbols.specs.Kinds.{Kind}
 use Rattle.method.specs.Sets.{has, count, lowest}
@@ -9,7 +9,7 @@ use Rattle.method.proofs.Counts.{count_clear, none_count, count_le}
 use Rattle.method.proofs.Marks.{lowest_some, lowest_none}
 use Rattle.method.proofs.Loop.{steps_done}
 use Rattle.search.specs.declared.work.Work.{Work}
-use Rattle.search.specs.Steps.{Going, Moved, Ended, settled}
+use Rattle.search.specs.Steps.{Going, Moved, Ended}
 use Rattle.search.specs.View.{with_policy}
 
 -- a search that peels, of its own width

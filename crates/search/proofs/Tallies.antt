@@ -1,13 +1,13 @@
 -- The tally of the rows, where a column leaves the active ones.
-use Rattle.std.proofs.Common.{◌≡◌, ℕ, zero, suc, ◌+◌, ◌<◌, ◌≤◌, Bool, true, false, cond, not, ◌&&◌, eqb, ◌⊎◌, List, [], ◌∷◌, map, length, get_or, set, Some, None, Option, sym, refl, ap, ◌∙◌, subst, ap₂, inl, inr, ⊎_elim, arith, get_or-set_other, get_or-set_same}
+use Rattle.std.proofs.Common.{◌≡◌, ℕ, zero, suc, ◌<◌, Bool, true, false, ◌&&◌, eqb, ◌⊎◌, List, [], ◌∷◌, length, get_or, set, Some, None, Option, sym, refl, ap, ◌∙◌, subst, ap₂, inl, inr, arith, get_or-set_other}
 use mathlib.Core.Bool.{and-false}
 use lib.ListN.{length-map}
-use Rattle.std.proofs.lemmas.List.{ext_get_or, get_or-map, get_or_past}
-use Rattle.std.proofs.lemmas.Bool.{cases_eq, cases_lt, cases_Bool, cond-true, cond-false, and_parts, and_from, and_right, both_ways, eqb-true, false≢true}
+use Rattle.std.proofs.lemmas.List.{ext_get_or, get_or-map}
+use Rattle.std.proofs.lemmas.Bool.{cases_eq, cond-true, cond-false, and_parts, and_from, and_right, both_ways, eqb-true}
 use Rattle.symbols.specs.Kinds.{Kind}
 use Rattle.method.specs.Sets.{has, differs, sym_diff, meet, bump, count, lowest, or_else}
-use Rattle.method.specs.Method.{Row, unused, ready, only_column, row_holds, row_of, blank, added_if, use_row}
-use Rattle.method.proofs.Marks.{has_meet, has_sym_diff, differs_false, clear_is, lowest_some, lowest_none}
+use Rattle.method.specs.Method.{Row, unused, ready, row_holds, row_of, blank, added_if, use_row}
+use Rattle.method.proofs.Marks.{has_meet, has_sym_diff, differs_false, lowest_some, lowest_none}
 use Rattle.method.proofs.Counts.{count_clear, none_count, only_one, lowest_in}
 use Rattle.method.proofs.Rows.{use_same, use_other}
 use Rattle.policies.specs.Shown.{shown}

@@ -1,5 +1,7 @@
 // The search for the codewords that agree with what was received: peeling, pivots, elimination and answer, in the
 // caller's working memory.
+#![tactic(auto)]
+
 mod answer;
 mod found;
 mod load;

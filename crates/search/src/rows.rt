@@ -27,7 +27,7 @@ pub(crate) fn holders(words: &[u64], m: usize, c: usize) -> Columns
 fn add_line<S: Symbol>(words: &mut [u64], sides: &mut [S], q: usize, line: &bits::Set, side: &S)
     requires { q < length sides.old }
     ensures words { words.new ≡ put_row words.old q (xors (row words.old q) line.now) }
-    ensures sides { (d : S) → sides.new ≡ slice_set sides.old q (kind.sum (slice_index_or sides.old q d) side.now) }
+    ensures sides { (d : S) → sides.new ≡ slice_set sides.old q (S.Symbol.kind.sum (slice_index_or sides.old q d) side.now) }
 {
     bits::add_line(words, q, line);
     sides[q].add(side);
@@ -43,7 +43,7 @@ pub(crate) fn add_to_each<S: Symbol>(
     requires within { 8 * length sides.old ≤ length words.old }
     requires row { r < length sides.old }
     requires width { others.now.width ≡ length sides.old }
-    ensures added { Added kind.sum (shown others.now) r words.old words.new sides.old sides.new }
+    ensures added { Added S.Symbol.kind.sum (shown others.now) r words.old words.new sides.old sides.new }
     ensures counted { result ≡ count (shown others.now) }
 {
     let line = bits::line_at(words, r);

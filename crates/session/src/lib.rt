@@ -1,4 +1,6 @@
 // A whole session of calls on two blocks, from beginning to end, with a log that ties each call to its answer.
+#![tactic(auto)]
+
 mod acting;
 mod carried;
 mod named;

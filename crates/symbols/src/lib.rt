@@ -1,4 +1,6 @@
 // Symbols: what a packet carries, and the laws that a sum of symbols keeps.
+#![tactic(auto)]
+
 mod bit;
 mod cell;
 mod kinds;

@@ -7,8 +7,8 @@ use crate::symbol::Symbol;
 
 // The sum of the table's symbols at the columns listed, in whatever order; a column past its end counts as zero.
 pub fn sum_at<S: Symbol>(table: &[S], columns: &[u16]) -> S
-    ensures value { result ≡ sum_at kind.zero kind.sum table.now columns.now }
-    ensures order { (cs : List ℕ) → Perm columns.now cs → result ≡ sum_at kind.zero kind.sum table.now cs }
+    ensures value { result ≡ sum_at S.Symbol.kind.zero S.Symbol.kind.sum table.now columns.now }
+    ensures order { (cs : List ℕ) → Perm columns.now cs → result ≡ sum_at S.Symbol.kind.zero S.Symbol.kind.sum table.now cs }
 {
     let mut sum = S::zero();
     for c in columns {
@@ -19,7 +19,7 @@ pub fn sum_at<S: Symbol>(table: &[S], columns: &[u16]) -> S
 
 // Adds the table's symbol at a column, or nothing past its end.
 fn add_column<S: Symbol>(sum: &mut S, table: &[S], column: usize)
-    ensures { sum.new ≡ kind.sum sum.old (slice_index_or table.now column kind.zero) }
+    ensures { sum.new ≡ S.Symbol.kind.sum sum.old (slice_index_or table.now column S.Symbol.kind.zero) }
 {
     if column < table.len() {
         sum.add(&table[column]);

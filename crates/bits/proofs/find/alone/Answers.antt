@@ -1,4 +1,3 @@
-use Rattle.std.proofs.Common.{arith}
 use Rattle.bits.proofs.Found.{two_held}
 use Rattle.bits.proofs.Held.{holds_within}
 use Rattle.bits.proofs.find.alone.Goals as goal

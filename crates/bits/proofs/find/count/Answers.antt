@@ -6,8 +6,8 @@ use Rattle.bits.specs.Sets.{holds}
 use Rattle.bits.proofs.Ones.{count_more}
 use Rattle.bits.proofs.find.count.Goals as goal
 
-pub overflow-add-n : goal.overflow-add-n
-overflow-add-n c =
+pub overflow_add-n : goal.overflow_add-n
+overflow_add-n c =
     let w = get_or c.args.set.now c.loop-w.w-index 0 in
     let f : w < 2 ^ 64 = omega arith in
     omega (arith, ones-le 64 w f, c.loop-w.invariant.0)

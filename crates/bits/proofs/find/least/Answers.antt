@@ -3,4 +3,4 @@ use Rattle.bits.proofs.Found.{least_of}
 use Rattle.bits.proofs.find.least.Goals as goal
 
 pub returns : goal.returns
-returns c = least_of (holds c.args.set.now) c.least-from.result c.least-from.ensures
+returns c = least_of (holds c.args.set.now) c.least_from.result c.least_from.ensures

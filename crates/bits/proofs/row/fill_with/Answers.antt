@@ -1,4 +1,3 @@
-use Rattle.std.proofs.Common.{sym}
 use Rattle.bits.proofs.row.fill_with.Goals as goal
 
 pub returns : goal.returns

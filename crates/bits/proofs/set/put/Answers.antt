@@ -5,6 +5,6 @@ use Rattle.bits.proofs.set.put.Goals as goal
 
 pub returns-then-c-words : goal.returns-then-c-words
 returns-then-c-words c = record {
-  within = λ h d. ap (λ (ws : List ℕ). holds ws d) c.put-bit.ensures ∙ holds_put c.args.words.now c.args.c d h;
+  within = λ h d. ap (λ (ws : List ℕ). holds ws d) c.put_bit.ensures ∙ holds_put c.args.words.now c.args.c d h;
   past = λ h. absurd (omega arith);
 }

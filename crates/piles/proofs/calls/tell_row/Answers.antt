@@ -5,6 +5,6 @@ use Rattle.piles.proofs.calls.tell_row.Goals as goal
 
 pub returns-in-Err : goal.returns-in-Err
 returns-in-Err c =
-    subst (λ (t : List ℕ). IfOk c.no-code-in-Err.result (λ s. string_bytes s ≡ t))
+    subst (λ (t : List ℕ). IfOk c.no_code-in-Err.result (λ s. string_bytes s ≡ t))
     (no_row _ c.args.r _ c.in-Err.field-0 c.in-Err.ensures ∙ sym (ap (row_text c.args.r) c.in-Some.is))
-    c.no-code-in-Err.ensures
+    c.no_code-in-Err.ensures

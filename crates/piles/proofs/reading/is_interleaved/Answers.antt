@@ -3,4 +3,4 @@ use Rattle.piles.proofs.reading.is_interleaved.Goals as goal
 
 pub returns : goal.returns
 unfolding interleaved_word
-returns c = c.is-word.ensures
+returns c = c.is_word.ensures

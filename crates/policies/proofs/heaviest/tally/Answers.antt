@@ -13,10 +13,10 @@ raise-requires g c =
     let x = c.in-Some.c in
     let row = row_at k c.args.r in
     let once = occ_once x row (row_lawful k ok c.args.r).apart in
-    (column_small k ok c.args.r c.loop-c.i x c.in-Some.ensures, omega (arith, c.loop-c.invariant x, c.requires x, once, num_most (member x row)))
+    record { column = column_small k ok c.args.r c.loop-c.i x c.in-Some.ensures; room = omega (arith, c.loop-c.invariant x, c.requires x, once, num_most (member x row)) }
 
-pub overflow-add-i : goal.overflow-add-i
-overflow-add-i g c =
+pub overflow_add-i : goal.overflow_add-i
+overflow_add-i g c =
     let k = g.C.Rows.matrix c.args.code.now in
     omega (arith, place_small k (g.C.Rows.lawful c.args.code.now) c.args.r c.loop-c.i c.in-Some.c c.in-Some.ensures)
 
@@ -41,5 +41,5 @@ returns g c d =
     let k = g.C.Rows.matrix c.args.code.now in
     let row = row_at k c.args.r in
     let once = occ_once d row (row_lawful k (g.C.Rows.lawful c.args.code.now) c.args.r).apart in
-    let end = tally_end row c.loop-c.i c.in-default.ensures d in
+    let end = tally_end row c.loop-c.i c.in_default.ensures d in
     omega (arith, c.loop-c.invariant d, end, once, bump_num (member d row) (at c.args.counts.now d))

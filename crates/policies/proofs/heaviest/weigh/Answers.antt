@@ -11,7 +11,7 @@ pub loop-r-init : goal.loop-r-init
 loop-r-init g c = get_or_zeros 512
 
 pub tally-requires : goal.tally-requires
-tally-requires g c κs d =
+tally-requires g c d =
     let k = g.C.Rows.matrix c.args.code.now in
     let rows = ap (λ s. s.rows) c.shape-r-end.ensures in
     omega (arith, rows, c.loop-r.invariant d, count_most (burdens k (shown c.args.unused.now) d) c.loop-r.r, (g.C.Rows.lawful c.args.code.now).few_rows)
@@ -23,6 +23,6 @@ loop-r-preserved g c d =
     let r = c.loop-r.r in
     let n = at c.loop-r.counts d in
     elim c.if-has.branch [
-      | then-has v ↦ ap (λ s. at s d) v.counts_is ∙ v.tally.ensures d ∙ weigh_more k u d r n _ v.if-has.ensures (c.loop-r.invariant d)
-      | else-has v ↦ ap (λ s. at s d) v.counts_is ∙ weigh_more k u d r n _ v.if-has.ensures (c.loop-r.invariant d)
+      | then-has v ↦ ap (λ s. at s d) v.counts-is ∙ v.tally.ensures d ∙ weigh_more k u d r n _ v.if-has.ensures (c.loop-r.invariant d)
+      | else-has v ↦ ap (λ s. at s d) v.counts-is ∙ weigh_more k u d r n _ v.if-has.ensures (c.loop-r.invariant d)
     ]

@@ -5,7 +5,7 @@ use Rattle.policies.specs.Shown.{shown}
 use Rattle.policies.proofs.Marks.{length_shown}
 use Rattle.policies.proofs.Labels.{pair_below, drawn_start, drawn_idle, drawn_other, drawn_pair}
 use Rattle.policies.proofs.joins.draw.Goals as goal
-use Rattle.policies.proofs.joins.draw.Goals.{then-has+in-Some, then-has+in-default, else-has}
+use Rattle.policies.proofs.joins.draw.Goals.{then-has+in-Some, then-has+in_default, else-has}
 
 pub loop-r-init : goal.loop-r-init
 loop-r-init g c = drawn_start _ c.args.up.now c.requires
@@ -14,7 +14,7 @@ pub join-requires : goal.join-requires
 join-requires g c =
     let s = c.args.active.now in
     let l = pair_below (g.C.Rows.matrix c.args.code.now) (shown s) c.loop-r.r c.in-Some.x c.in-Some.y c.in-Some.ensures in
-    (c.loop-r.invariant.forest.falling, omega (arith, l.0, s.narrow, length_shown s), omega (arith, l.1, s.narrow, length_shown s))
+    record { falling = c.loop-r.invariant.forest.falling; first = omega (arith, l.0, s.narrow, length_shown s); second = omega (arith, l.1, s.narrow, length_shown s) }
 
 pub loop-r-preserved : goal.loop-r-preserved
 loop-r-preserved g c =
@@ -27,6 +27,6 @@ loop-r-preserved g c =
     λ b t e f h. subst (λ b. P b c.if-has.up) (sym e) (subst (P b) (sym f) h) in
     elim c.if-has.branch [
       | then-has+in-Some v ↦ became true v.join.new.up v.any-is v.up-is (drawn_pair k a u r c.loop-r.any c.loop-r.up c.loop-r.invariant v.in-Some.x v.in-Some.y v.join.new.up v.if-has.ensures v.in-Some.ensures v.join.ensures)
-      | then-has+in-default v ↦ became c.loop-r.any c.loop-r.up v.any-is v.up-is (drawn_other k a u r c.loop-r.any c.loop-r.up c.loop-r.invariant v.if-has.ensures v.in-default.ensures)
+      | then-has+in_default v ↦ became c.loop-r.any c.loop-r.up v.any-is v.up-is (drawn_other k a u r c.loop-r.any c.loop-r.up c.loop-r.invariant v.if-has.ensures v.in_default.ensures)
       | else-has v ↦ became c.loop-r.any c.loop-r.up v.any-is v.up-is (drawn_idle k a u r c.loop-r.any c.loop-r.up c.loop-r.invariant v.if-has.ensures)
     ]

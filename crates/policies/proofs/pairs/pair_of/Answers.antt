@@ -6,17 +6,17 @@ use Rattle.policies.specs.Shown.{shown}
 use Rattle.policies.proofs.Walks.{nth_below, place_small}
 use Rattle.policies.proofs.Scans.{scan_idle, scan_more, scan_third, scan_end}
 use Rattle.policies.proofs.pairs.pair_of.Goals as goal
-use Rattle.policies.proofs.pairs.pair_of.Goals.{then-has+in-ok-few, else-has}
+use Rattle.policies.proofs.pairs.pair_of.Goals.{then-has+in_ok-few, else-has}
 
-pub returns-in-err-few : goal.returns-in-err-few
-returns-in-err-few g c =
+pub returns-in_err-few : goal.returns-in_err-few
+returns-in_err-few g c =
     let row = row_at (g.C.Rows.matrix c.args.code.now) c.args.r in
     let a = shown c.args.active.now in
-    c.from-residual.ensures
-    ∙ scan_third a row c.loop-c.i c.loop-c.few (pair_of (marked a row)) c.loop-c.invariant c.in-Some.c c.in-Some.ensures c.if-has.ensures (sym c.in-err-few.was ∙ c.with.ensures)
+    c.from_residual.ensures
+    ∙ scan_third a row c.loop-c.i c.loop-c.few (pair_of (marked a row)) c.loop-c.invariant c.in-Some.c c.in-Some.ensures c.if-has.ensures (sym c.in_err-few.was ∙ c.with.ensures)
 
-pub overflow-add-i : goal.overflow-add-i
-overflow-add-i g c =
+pub overflow_add-i : goal.overflow_add-i
+overflow_add-i g c =
     let k = g.C.Rows.matrix c.args.code.now in
     omega (arith, place_small k (g.C.Rows.lawful c.args.code.now) c.args.r c.loop-c.i c.in-Some.c c.in-Some.ensures)
 
@@ -33,7 +33,7 @@ loop-c-preserved g c =
     let few = c.loop-c.few in
     let read = c.in-Some.ensures in
     elim c.if-has.branch [
-      | then-has+in-ok-few v ↦ scan_more a row c.loop-c.i few o c.loop-c.invariant c.in-Some.c read c.if-has.few _ v.few-is v.if-has.ensures (sym v.in-ok-few.was ∙ v.with.ensures)
+      | then-has+in_ok-few v ↦ scan_more a row c.loop-c.i few o c.loop-c.invariant c.in-Some.c read c.if-has.few _ v.few-is v.if-has.ensures (sym v.in_ok-few.was ∙ v.with.ensures)
       | else-has v ↦ scan_idle a row c.loop-c.i few o c.loop-c.invariant c.in-Some.c read c.if-has.few v.few-is v.if-has.ensures
     ]
 
@@ -41,4 +41,4 @@ pub returns : goal.returns
 returns g c =
     let row = row_at (g.C.Rows.matrix c.args.code.now) c.args.r in
     let a = shown c.args.active.now in
-    c.pair.ensures ∙ scan_end a row c.loop-c.i c.loop-c.few (pair_of (marked a row)) c.loop-c.invariant c.in-default.ensures
+    c.pair.ensures ∙ scan_end a row c.loop-c.i c.loop-c.few (pair_of (marked a row)) c.loop-c.invariant c.in_default.ensures

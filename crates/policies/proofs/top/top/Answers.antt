@@ -8,10 +8,10 @@ use Rattle.policies.proofs.top.top.Goals as goal
 use Rattle.policies.proofs.top.top.Goals.{then-has, else-has}
 
 pub better-best-requires : goal.better-best-requires
-better-best-requires c = (
-  omega (arith, c.args.active.now.narrow),
-  subst (Below c.loop-c.c) (sym c.loop-c.invariant) (top_below (at c.args.weights.now) (shown c.args.active.now) c.loop-c.c),
-)
+better-best-requires c = record {
+  column = omega (arith, c.args.active.now.narrow);
+  below = subst (Below c.loop-c.c) (sym c.loop-c.invariant) (top_below (at c.args.weights.now) (shown c.args.active.now) c.loop-c.c);
+}
 
 pub loop-c-preserved : goal.loop-c-preserved
 loop-c-preserved c =

@@ -12,8 +12,8 @@ told c =
     let f : SFits w16 e = search rules in
     c.filled-count.ensures ∙ ap (λ e. filled (shift_of e)) (to_z-of_z w16 e f)
 
-pub overflow-add-count : goal.overflow-add-count
-overflow-add-count c = let few = adds_few c.args.entries.now c.loop-e.e-index c.loop-e.count _ (told c) in search rules
+pub overflow_add-count : goal.overflow_add-count
+overflow_add-count c = let few = adds_few c.args.entries.now c.loop-e.e-index c.loop-e.count _ (told c) in search rules
 
 pub loop-e-preserved : goal.loop-e-preserved
 loop-e-preserved c =

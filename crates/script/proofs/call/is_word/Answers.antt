@@ -8,4 +8,4 @@ use Rattle.std.proofs.lemmas.Bool.Decides.{Decides-eqb}
 pub returns : goal.returns
 returns c =
     let word = c.args.word.now in
-    same_tested word c.as-bytes.result.now c.eq.result (slice_eq-Decides Decides-eqb _ _ _ c.eq.ensures) ∙ ap (bytes_eq word) c.as-bytes.ensures.value
+    same_tested word c.as_bytes.result.now c.eq.result (slice_eq-Decides Decides-eqb _ _ _ c.eq.ensures) ∙ ap (bytes_eq word) c.as_bytes.ensures.value

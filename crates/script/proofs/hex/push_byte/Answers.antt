@@ -6,4 +6,4 @@ use Rattle.script.proofs.hex.push_byte.Goals as goal
 pub returns : goal.returns
 returns c =
     let byte = c.args.byte in
-    then_also (string_bytes c.args.text.now) (digit_char (byte / 16) ∷ []) (digit_char (byte % 16) ∷ []) c.in-ok-push-digit.ensures c.in-ok-push-digit-2.ensures
+    then_also (string_bytes c.args.text.now) (digit_char (byte / 16) ∷ []) (digit_char (byte % 16) ∷ []) c.in_ok-push_digit.ensures c.in_ok-push_digit-2.ensures

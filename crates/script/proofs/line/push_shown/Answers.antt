@@ -4,9 +4,9 @@ use Rattle.script.specs.Lines.{escaped}
 use Rattle.script.proofs.Texts.{then_also}
 use Rattle.script.proofs.line.push_shown.Goals as goal
 
-pub returns-in-ok-push-byte : goal.returns-in-ok-push-byte
-returns-in-ok-push-byte c =
+pub returns-in_ok-push_byte : goal.returns-in_ok-push_byte
+returns-in_ok-push_byte c =
     let was = string_bytes c.args.text.now in
     let byte = c.args.byte in
     let other : codes "\\x" ++ byte_digits byte ≡ escaped byte = search rules in
-    then_also was (codes "\\x") (byte_digits byte) c.in-ok-push-str.ensures.bytes c.in-ok-push-byte.ensures ∙ ap (λ l. was ++ l) other
+    then_also was (codes "\\x") (byte_digits byte) c.in_ok-push_str.ensures.bytes c.in_ok-push_byte.ensures ∙ ap (λ l. was ++ l) other

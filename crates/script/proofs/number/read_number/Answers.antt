@@ -3,10 +3,10 @@ use Rattle.std.specs.Str.Parse.{ParsesUnsigned}
 use Rattle.script.proofs.Numerals.{numeral_utf8, no_numeral, number_parsed}
 use Rattle.script.proofs.number.read_number.Goals as goal
 
-pub returns-in-default-from-utf8 : goal.returns-in-default-from-utf8
-returns-in-default-from-utf8 c =
+pub returns-in_default-from_utf8 : goal.returns-in_default-from_utf8
+returns-in_default-from_utf8 c =
     let word = c.args.word.now in
-    sym (no_numeral word (λ is. c.in-default-from-utf8.ensures.cases.0 (numeral_utf8 word is)))
+    sym (no_numeral word (λ is. c.in_default-from_utf8.ensures.cases.0 (numeral_utf8 word is)))
 
 pub returns : goal.returns
 returns c =

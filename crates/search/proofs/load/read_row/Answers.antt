@@ -1,4 +1,4 @@
-use Rattle.std.proofs.Common.{◌≡◌, ℕ, ◌+◌, ◌-◌, ◌<◌, ◌≤◌, true, false, List, length, get_or, take, sym, refl, ap, ◌∙◌, subst, arith}
+use Rattle.std.proofs.Common.{◌≡◌, ◌-◌, ◌<◌, ◌≤◌, false, length, take, refl, ap, ◌∙◌, arith}
 use Rattle.std.proofs.lemmas.List.{length-take-le, get_or-take, take_all}
 use Rattle.symbols.specs.Sums.{sum_at}
 use Rattle.codes.specs.Matrix.{row_at, member}
@@ -6,7 +6,7 @@ use Rattle.method.specs.Sets.{has, marked}
 use Rattle.method.specs.Method.{missing}
 use Rattle.policies.proofs.Marks.{holds_zeros}
 use Rattle.search.specs.Searches.{marks_in}
-use Rattle.search.proofs.Loading.{Reading, lawful_row, row_short, reading_none, reading_got, reading_lost, reading_marks, reading_moved}
+use Rattle.search.proofs.Loading.{lawful_row, row_short, reading_none, reading_got, reading_lost, reading_marks, reading_moved}
 use Rattle.search.proofs.load.read_row.Goals as goal
 use Rattle.search.proofs.load.read_row.Goals.{then-received-c, else-received-c}
 
@@ -26,8 +26,8 @@ loop-i-preserved g c =
     let got = marks_in k received in
     let cs = row_at k c.args.r in
     let i = c.loop-i.i in
-    let d = c.column-at-c.result in
-    let e = c.column-at-c.ensures in
+    let d = c.column_at-c.result in
+    let e = c.column_at-c.ensures in
     let in' : i < length cs = omega (arith, c.weight-i-end.ensures) in
     let wide : k.width ≤ length received = omega (arith, ok.few_columns) in
     let low : d < length got = omega (arith, length-take-le k.width received wide, e.low) in
@@ -55,6 +55,6 @@ returns g c =
     record {
       eight = inv.eight;
       cols = reading_marks k.width c.loop-i.line (marked (missing got) cs) (λ d. inv.held d ∙ ap (λ xs. member d (marked (missing got) xs)) all);
-      right = c.sum-at.ensures.value ∙ ap (sum_at K.zero K.sum table) (ap (λ n. take n c.loop-i.heard) from_start ∙ inv.kept ∙ ap (marked got) all);
+      right = c.sum_at.ensures.value ∙ ap (sum_at K.zero K.sum table) (ap (λ n. take n c.loop-i.heard) from_start ∙ inv.kept ∙ ap (marked got) all);
       many = inv.lost ∙ ap (λ xs. length (marked (missing got) xs)) all;
     }

@@ -1,4 +1,4 @@
-use Rattle.std.proofs.Common.{length, ap, ◌∙◌, subst}
+use Rattle.std.proofs.Common.{ap, ◌∙◌, subst}
 use Rattle.bits.specs.Sets.{holds, ands, Least, row}
 use Rattle.bits.proofs.Rows.{length_row}
 use Rattle.search.proofs.Rowsets.{lowest_shared}
@@ -9,4 +9,4 @@ returns c =
     let ws = c.args.words.now in
     let s = c.args.active.now in
     lowest_shared (row ws c.args.r) s (length_row ws c.args.r) c.least.result
-    (subst (λ xs. Least (holds xs) c.least.result) (c.shared.ensures ∙ ap (λ l. ands l s.words) c.line-at.ensures) c.least.ensures)
+    (subst (λ xs. Least (holds xs) c.least.result) (c.shared.ensures ∙ ap (λ l. ands l s.words) c.line_at.ensures) c.least.ensures)

@@ -1,18 +1,16 @@
-use Rattle.std.proofs.Common.{◌≡◌, suc, true, sym, refl, ap, ◌∙◌, arith}
-use Rattle.method.specs.Sets.{has, count}
-use Rattle.method.proofs.Counts.{count_clear}
+use Rattle.std.proofs.Common.{sym, refl, ap, ◌∙◌}
 use Rattle.policies.specs.Shown.{shown}
-use Rattle.search.specs.View.{view, lines, with_policy}
+use Rattle.search.specs.View.{view, with_policy}
 use Rattle.search.proofs.Lines.{map_unused}
 use Rattle.search.proofs.Rooms.{fewer_active}
 use Rattle.search.proofs.Stepping.{going_own, going_as, step_use, step_name, none_active, named_active, never_none}
 use Rattle.search.proofs.peel.advance.Goals as goal
 
-pub next-ready-requires : goal.next-ready-requires
-next-ready-requires g c = going_own c.requires
+pub next_ready-requires : goal.next_ready-requires
+next_ready-requires g c = going_own c.requires
 
-pub peel-row-requires : goal.peel-row-requires
-peel-row-requires g c = record { going = going_own c.requires; ready = c.in-Some.ensures }
+pub peel_row-requires : goal.peel_row-requires
+peel_row-requires g c = record { going = going_own c.requires; ready = c.in-Some.ensures }
 
 pub returns-in-Some : goal.returns-in-Some
 returns-in-Some g c =
@@ -21,26 +19,26 @@ returns-in-Some g c =
     let choice = g.P.Policy.choice (g.C.Rows.matrix c.args.code.now) in
     let p = c.args.policy.now in
     let f = c.in-Some.ensures in
-    let e = c.peel-row.ensures in
+    let e = c.peel_row.ensures in
     let st = ap (with_policy p) e.state in
     record {
       going = going_as e.going c.requires.sized.wide;
       stepped = record {
         is = st ∙ sym (step_use K choice (view K c.args.words.now c.args.sides.now w p) c.in-Some.c f.is_active c.in-Some.r f.row f.only);
-        fewer = fewer_active (shown w.active) (shown c.peel-row.new.work.active) c.in-Some.c (ap (λ s. s.active) e.state) f.is_active;
+        fewer = fewer_active (shown w.active) (shown c.peel_row.new.work.active) c.in-Some.c (ap (λ s. s.active) e.state) f.is_active;
       };
     }
 
-pub returns-then-is-none : goal.returns-then-is-none
-returns-then-is-none g c =
+pub returns-then-is_none : goal.returns-then-is_none
+returns-then-is_none g c =
     let w = c.args.work.now in
     record {
       going = c.requires;
-      stepped = record { same = refl; idle = none_active (shown w.active) c.least.result c.least.ensures c.if-is-none.ensures };
+      stepped = record { same = refl; idle = none_active (shown w.active) c.least.result c.least.ensures c.if-is_none.ensures };
     }
 
-pub put-pivot-requires : goal.put-pivot-requires
-put-pivot-requires g c =
+pub put_pivot-requires : goal.put_pivot-requires
+put_pivot-requires g c =
     let w = c.args.work.now in
     let k = g.C.Rows.matrix c.args.code.now in
     record {
@@ -62,7 +60,7 @@ returns-in-Some-name g c =
     let q = c.name.new.self in
     let ws = c.args.words.now in
     let ss = c.args.sides.now in
-    let e = c.put-pivot.ensures in
+    let e = c.put_pivot.ensures in
     let asked = c.in-Some-name.ensures in
     let h = named_active choice (g.met.P.Policy.names k) p q (shown w.active) (shown w.uses.unused) c.in-Some-name.c asked in
     let st = ap (with_policy q) e.state in
@@ -71,7 +69,7 @@ returns-in-Some-name g c =
       going = going_as e.going c.requires.sized.wide;
       stepped = record {
         is = st ∙ sym (step_name K choice (view K ws ss w p) c.in-Some-name.c h q c.in-None.ensures (asked ∙ ap (choice p (shown w.active)) u));
-        fewer = fewer_active (shown w.active) (shown c.put-pivot.new.work.active) c.in-Some-name.c (ap (λ s. s.active) e.state) h;
+        fewer = fewer_active (shown w.active) (shown c.put_pivot.new.work.active) c.in-Some-name.c (ap (λ s. s.active) e.state) h;
       };
     }
 
@@ -79,4 +77,4 @@ pub returns-in-None-name : goal.returns-in-None-name
 returns-in-None-name g c =
     let w = c.args.work.now in
     let k = g.C.Rows.matrix c.args.code.now in
-    absurd (never_none (g.P.Policy.choice k) (g.met.P.Policy.names k) c.args.policy.now c.name.new.self (shown w.active) (shown w.uses.unused) c.least.result c.least.ensures c.if-is-none.ensures c.in-None-name.ensures)
+    absurd (never_none (g.P.Policy.choice k) (g.met.P.Policy.names k) c.args.policy.now c.name.new.self (shown w.active) (shown w.uses.unused) c.least.result c.least.ensures c.if-is_none.ensures c.in-None-name.ensures)

@@ -1,4 +1,4 @@
-use Rattle.std.proofs.Common.{refl, ◌∙◌}
+use Rattle.std.proofs.Common.{◌∙◌}
 use Rattle.policies.proofs.Marks.{length_shown}
 use Rattle.search.specs.View.{view}
 use Rattle.search.proofs.Stepping.{steps_again, steps_all}

@@ -1,8 +1,7 @@
-use Rattle.std.proofs.Common.{◌≡◌, ℕ, ◌+◌, ◌<◌, ◌≤◌, true, map, length, get_or, sym, refl, ap, ◌∙◌, subst, arith}
+use Rattle.std.proofs.Common.{◌≡◌, ℕ, ◌<◌, length, get_or, sym, ap, ◌∙◌, subst, arith}
 use Rattle.std.specs.List.{AllByRecursion as All}
-use Rattle.std.proofs.lemmas.List.{get_or-map}
-use Rattle.method.specs.Sets.{has, count}
-use Rattle.method.specs.Method.{unused, use_row, row_of, blank}
+use Rattle.method.specs.Sets.{has}
+use Rattle.method.specs.Method.{unused, use_row, row_of}
 use Rattle.policies.specs.Shown.{shown}
 use Rattle.policies.proofs.Marks.{shown_below}
 use Rattle.search.specs.View.{lines, listed}
@@ -12,8 +11,8 @@ use Rattle.search.proofs.Rooms.{fewer_active, room_next}
 use Rattle.search.proofs.Tallies.{some_count, length_ready, tallied_used, tallied_moved}
 use Rattle.search.proofs.peel.peel_row.Goals as goal
 
-pub use-row-requires : goal.use-row-requires
-use-row-requires g c =
+pub use_row-requires : goal.use_row-requires
+use_row-requires g c =
     let w = c.args.work.now in
     let K = g.S.Symbol.kind in
     record {
@@ -33,7 +32,7 @@ lower-requires g c =
     let ss = c.args.sides.now in
     let held = c.holders-held.result in
     let wide = held_width held _ (length ss) c.holders-held.ensures in
-    let tally = c.use-row.ensures.same.0 in
+    let tally = c.use_row.ensures.same.0 in
     let high = length_lines K n ws ss w.uses in
     let col = shown_below w.active c.args.c c.requires.ready.is_active in
     record {
@@ -49,16 +48,16 @@ lower-requires g c =
 pub returns : goal.returns
 returns g c =
     let w = c.args.work.now in
-    let w' = c.use-row.new.work in
+    let w' = c.use_row.new.work in
     let K = g.S.Symbol.kind in
     let n = w.active.width in
     let ws = c.args.words.now in
     let ss = c.args.sides.now in
-    let ws' = c.use-row.new.words in
-    let ss' = c.use-row.new.sides in
+    let ws' = c.use_row.new.words in
+    let ss' = c.use_row.new.sides in
     let rows = lines K n ws ss w.uses in
     let held = c.holders-held.result in
-    let e = c.use-row.ensures in
+    let e = c.use_row.ensures in
     let same = e.same in
     let col = shown_below w.active c.args.c c.requires.ready.is_active in
     let high = length_lines K n ws ss w.uses in

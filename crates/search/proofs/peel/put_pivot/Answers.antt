@@ -1,8 +1,6 @@
-use Rattle.std.proofs.Common.{◌≡◌, ℕ, ◌+◌, ◌<◌, ◌≤◌, true, false, [], ◌∷◌, ◌++◌, map, length, get_or, set, sym, refl, ap, ◌∙◌, subst, arith}
+use Rattle.std.proofs.Common.{◌<◌, false, length, sym, refl, ap, ◌∙◌, subst, arith}
 use Rattle.std.specs.List.{AllByRecursion as All}
 use Rattle.std.proofs.ByRecursion.{All-push}
-use Rattle.method.specs.Sets.{has, count}
-use Rattle.method.specs.Method.{State}
 use Rattle.policies.specs.Shown.{shown}
 use Rattle.policies.proofs.Marks.{shown_below}
 use Rattle.search.specs.View.{lines, listed}

@@ -11,7 +11,7 @@ loop-r-preserved c =
     let u = c.args.uses.now in
     let r = c.loop-r.r in
     let up : r ≡ (r - 1) + 1 = omega arith in
-    placed_unused u (r - 1) c.args.m c.loop-r.rows (subst (λ j. Placed u j c.args.m c.loop-r.rows) up c.loop-r.invariant) c.in-default.ensures
+    placed_unused u (r - 1) c.args.m c.loop-r.rows (subst (λ j. Placed u j c.args.m c.loop-r.rows) up c.loop-r.invariant) c.in_default.ensures
 
 pub loop-r-preserved-then-c-lt512 : goal.loop-r-preserved-then-c-lt512
 loop-r-preserved-then-c-lt512 c =

@@ -1,8 +1,8 @@
-use Rattle.std.proofs.Common.{◌≡◌, ℕ, ◌+◌, ◌<◌, ◌≤◌, [], ◌∷◌, ◌++◌, length, get_or, take, sym, refl, ap, ◌∙◌, arith}
+use Rattle.std.proofs.Common.{◌≡◌, ◌<◌, [], ◌∷◌, ◌++◌, length, get_or, take, sym, refl, ap, ◌∙◌, arith}
 use Rattle.std.proofs.ByRecursion.{All-get_or}
 use Rattle.std.proofs.lemmas.List.{take_more, get_or-take, length-take-le}
 use Rattle.method.specs.Sets.{lowest}
-use Rattle.method.specs.Method.{State, holder, settle, settle_at}
+use Rattle.method.specs.Method.{holder, settle, settle_at}
 use Rattle.method.proofs.Loop.{settle_push}
 use Rattle.search.specs.View.{bare, listed}
 use Rattle.search.proofs.settle.settle_all.Goals as goal
@@ -11,8 +11,8 @@ pub loop-i-init : goal.loop-i-init
 unfolding settle
 loop-i-init g c = (c.requires.sized, refl, omega (arith, c.requires.room.unfreed), omega (arith, c.requires.room.added), refl)
 
-pub settle-one-requires : goal.settle-one-requires
-settle-one-requires g c =
+pub settle_one-requires : goal.settle_one-requires
+settle_one-requires g c =
     let w₀ = c.args.work.now in
     let w = c.loop-i.work in
     let i = c.loop-i.i in
@@ -34,7 +34,7 @@ loop-i-preserved g c =
     let w = c.loop-i.work in
     let i = c.loop-i.i in
     let inv = c.loop-i.invariant in
-    let e = c.settle-one.ensures in
+    let e = c.settle_one.ensures in
     let d = get_or w.pivots.columns i 0 in
     let s₀ = bare K c.args.words.now c.args.sides.now w₀ in
     let cs = w₀.pivots.columns in

@@ -1,14 +1,14 @@
-use Rattle.std.proofs.Common.{◌≡◌, length, Some, None, sym, refl, ap, ◌∙◌, arith}
+use Rattle.std.proofs.Common.{Some, None, sym, refl, ap, ◌∙◌, arith}
 use Rattle.method.specs.Sets.{lowest}
-use Rattle.method.specs.Method.{State, holder, blank, settle_at}
+use Rattle.method.specs.Method.{holder, blank, settle_at}
 use Rattle.method.proofs.Marks.{lowest_some}
 use Rattle.policies.specs.Shown.{shown}
 use Rattle.search.specs.View.{lines, listed, bare}
 use Rattle.search.proofs.Lines.{length_lines, lowest_holder}
 use Rattle.search.proofs.settle.settle_one.Goals as goal
 
-pub use-row-requires : goal.use-row-requires
-use-row-requires g c =
+pub use_row-requires : goal.use_row-requires
+use_row-requires g c =
     let w = c.args.work.now in
     let K = g.S.Symbol.kind in
     let n = w.active.width in
@@ -32,7 +32,7 @@ returns-in-Some g c =
     let ss = c.args.sides.now in
     let found = lowest_holder K w.active.width ws ss w.uses c.args.c (shown c.holders-held.result) c.requires.column c.requires.sized.high c.holders-held.ensures (Some c.in-Some.r)
     (c.in-Some.ensures ∙ ap (lowest (λ b. b)) c.both.ensures) in
-    let e = c.use-row.ensures in
+    let e = c.use_row.ensures in
     record {
       sized = e.sized;
       same = e.same.1;

@@ -1,4 +1,4 @@
-use Rattle.std.proofs.Common.{◌≡◌, ◌*◌, length, sym, refl, ap, ◌∙◌, subst, arith}
+use Rattle.std.proofs.Common.{◌≡◌, ◌*◌, length, refl, arith}
 use Rattle.codes.specs.Matrix.{height}
 use Rattle.search.proofs.Ending.{ended, run_none, run_several, run_one}
 use Rattle.search.proofs.whole.run.Goals as goal

@@ -5,8 +5,8 @@ use Rattle.codes.proofs.Segments as segments
 use Rattle.codes.proofs.Starts.{all_lower, begins, lower_parts}
 use Rattle.codes.proofs.listed.Listed.start.Goals as goal
 
-pub returns-then-r-gt-MAX-ROWS : goal.returns-then-r-gt-MAX-ROWS
-returns-then-r-gt-MAX-ROWS c =
+pub returns-then-r-gt-MAX_ROWS : goal.returns-then-r-gt-MAX_ROWS
+returns-then-r-gt-MAX_ROWS c =
     let x = c.args.self.now in
     let up = listed_rising x.m x.n x.records.now x.sized x.rising in
     let z = sizes x.m x.n x.sized in

@@ -5,5 +5,5 @@ use Rattle.layers.proofs.stacked.Stacked.part.Goals as goal
 pub returns-then-r-s : goal.returns-then-r-s
 returns-then-r-s g c = search (rules, in_first)
 
-pub returns-then-shapes-fit : goal.returns-then-shapes-fit
-returns-then-shapes-fit g c = search (rules, in_second)
+pub returns-then-shapes_fit : goal.returns-then-shapes_fit
+returns-then-shapes_fit g c = search (rules, in_second)

@@ -1,10 +1,10 @@
 use Rattle.std.proofs.Common.{◌<◌, length, sym, ◌∙◌, subst, arith, w16, rules}
 use Rattle.std.specs.Str.Parse.{ParsesSigned}
-use Rattle.piles.proofs.Entries.{no_entry, plus_entry, entry_parsed}
+use Rattle.piles.proofs.Entries.{no_entry, entry_parsed}
 use Rattle.piles.proofs.written.I16Written.of_word.Goals as goal
 
-pub returns-in-default-from-utf8 : goal.returns-in-default-from-utf8
-returns-in-default-from-utf8 c = sym (no_entry c.args.word.now c.in-default-from-utf8.ensures.cases.0)
+pub returns-in_default-from_utf8 : goal.returns-in_default-from_utf8
+returns-in_default-from_utf8 c = sym (no_entry c.args.word.now c.in_default-from_utf8.ensures.cases.0)
 
 pub returns : goal.returns
 returns c =

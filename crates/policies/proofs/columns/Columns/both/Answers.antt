@@ -5,14 +5,16 @@ use Rattle.policies.specs.Shown.{marks_of}
 use Rattle.policies.proofs.Marks.{shared_within, shown_shared}
 use Rattle.policies.proofs.columns.Columns.both.Goals as goal
 
-pub invariant-of-result : goal.invariant-of-result
-invariant-of-result c =
+pub invariant_of-result : goal.invariant_of-result
+invariant_of-result c =
     let s = c.args.self.now in
     let t = c.args.other.now in
-    let e = c.shared.ensures in (
-      ap length e ∙ length-zip2 bit_and s.words t.words (s.eight ∙ sym t.eight) ∙ s.eight,
-      (omega (arith, c.min.ensures, s.narrow), (rw e (shared_within s t c.min.result c.min.ensures), tt)),
-    )
+    let e = c.shared.ensures in
+    record {
+      eight = ap length e ∙ length-zip2 bit_and s.words t.words (s.eight ∙ sym t.eight) ∙ s.eight;
+      narrow = omega (arith, c.min.ensures, s.narrow);
+      within = rw e (shared_within s t c.min.result c.min.ensures);
+    }
 
 pub returns : goal.returns
 returns c =

@@ -2,12 +2,16 @@ use Rattle.std.proofs.Common.{◌/◌, ◌<◌, false, length, sym, ◌∙◌, a
 use Rattle.policies.proofs.Marks.{marks_changed, out_at, out_other, has_shown, shown_below}
 use Rattle.policies.proofs.columns.Columns.unmark.Goals as goal
 
-pub invariant-of-self : goal.invariant-of-self
-invariant-of-self c =
+pub invariant_of-self : goal.invariant_of-self
+invariant_of-self c =
     let s = c.args.self.now in
     let below = shown_below s c.args.c c.requires in
     let l : c.args.c / 64 < length s.words = omega (arith, s.narrow, s.eight) in
-    (c.flip.auto.words ∙ s.eight, (s.narrow, ((λ d h. out_other s.words _ c.args.c (c.flip.ensures.within l) d (omega arith) ∙ s.within d h), tt)))
+    record {
+      eight = c.flip.auto.words ∙ s.eight;
+      narrow = s.narrow;
+      within = λ d h. out_other s.words _ c.args.c (c.flip.ensures.within l) d (omega arith) ∙ s.within d h;
+    }
 
 pub returns : goal.returns
 returns c =

@@ -5,17 +5,17 @@ use Rattle.quasi_cyclic.proofs.circulant.QuasiCyclic.line.Goals as goal
 pub returns-then-r-self : goal.returns-then-r-self
 returns-then-r-self c = no_line c.args.self.now c.args.r c.if-r-self.true
 
-pub overflow-mul-first : goal.overflow-mul-first
-overflow-mul-first c = let w = within c.args.self.now c.args.r c.if-r-self.false in omega (arith, w.0, w.1)
+pub overflow_mul-first : goal.overflow_mul-first
+overflow_mul-first c = let w = within c.args.self.now c.args.r c.if-r-self.false in omega (arith, w.0, w.1)
 
-pub overflow-add-end : goal.overflow-add-end
-overflow-add-end c = let w = within c.args.self.now c.args.r c.if-r-self.false in omega (arith, w.0, w.1)
+pub overflow_add-end : goal.overflow_add-end
+overflow_add-end c = let w = within c.args.self.now c.args.r c.if-r-self.false in omega (arith, w.0, w.1)
 
-pub offset-bounds-self-first : goal.offset-bounds-self-first
-offset-bounds-self-first c = let w = within c.args.self.now c.args.r c.if-r-self.false in omega (arith, w.0, w.1)
+pub offset_bounds-self-first : goal.offset_bounds-self-first
+offset_bounds-self-first c = let w = within c.args.self.now c.args.r c.if-r-self.false in omega (arith, w.0, w.1)
 
-pub slice-bounds-result-end-2 : goal.slice-bounds-result-end-2
-slice-bounds-result-end-2 c = let w = within c.args.self.now c.args.r c.if-r-self.false in omega (arith, w.0, w.1)
+pub slice_bounds-result-end-2 : goal.slice_bounds-result-end-2
+slice_bounds-result-end-2 c = let w = within c.args.self.now c.args.r c.if-r-self.false in omega (arith, w.0, w.1)
 
 pub returns : goal.returns
 returns c = the_line c.args.self.now c.args.r _ (omega arith) c.if-r-self.false

@@ -4,7 +4,7 @@ use Rattle.std.proofs.lemmas.Int.{to_z-of_z}
 use Rattle.quasi_cyclic.specs.Entries.{shift_of, line_row}
 use Rattle.quasi_cyclic.proofs.Picks.{shift_fits, pick_here, pick_next, pick_skip, pick_end}
 use Rattle.quasi_cyclic.proofs.circulant.questions.pick.Goals as goal
-use Rattle.quasi_cyclic.proofs.circulant.questions.pick.Goals.{in-Some+else-left-eq0, in-default}
+use Rattle.quasi_cyclic.proofs.circulant.questions.pick.Goals.{in-Some+else-left-eq0, in_default}
 
 pub returns-then-left-eq0 : goal.returns-then-left-eq0
 returns-then-left-eq0 c =
@@ -32,9 +32,9 @@ loop-j-preserved c =
           sym (pick_next c.args.z c.args.r j es c.loop-j-test.true w.in-Some.s c.match-shift.left (w.in-Some.ensures ∙ ap shift_of (to_z-of_z w16 e f)))
           ∙ ap (slice_get row) up
           ∙ c.loop-j.invariant
-      | in-default w ↦
+      | in_default w ↦
           ap (slice_get rest) w.left-is
-          ∙ sym (pick_skip c.args.z c.args.r j es c.loop-j-test.true c.loop-j.left (w.in-default.ensures ∙ ap shift_of (to_z-of_z w16 e f)))
+          ∙ sym (pick_skip c.args.z c.args.r j es c.loop-j-test.true c.loop-j.left (w.in_default.ensures ∙ ap shift_of (to_z-of_z w16 e f)))
           ∙ c.loop-j.invariant
     ]
 

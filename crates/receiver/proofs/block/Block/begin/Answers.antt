@@ -5,10 +5,10 @@ use Rattle.receiver.proofs.block.Block.begin.Goals as goal
 pub returns : goal.returns
 returns g c =
     let b = c.args.self.now in
-    let marks = c.clear-missing.ensures.marks in
-    let table = c.clear-missing.ensures.table ∙ all_missing g.S.Symbol.kind.zero b.marks.n b.table.now b.marks.few b.fits in
+    let marks = c.clear_missing.ensures.marks in
+    let table = c.clear_missing.ensures.table ∙ all_missing g.S.Symbol.kind.zero b.marks.n b.table.now b.marks.few b.fits in
     record {
-      lent = c.clear-missing.ensures.lent;
+      lent = c.clear_missing.ensures.lent;
       values = λ i. record {
         number = (marks i).number;
         stamp = (marks i).stamp;

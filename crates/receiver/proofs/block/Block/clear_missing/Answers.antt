@@ -14,13 +14,13 @@ loop-i-preserved g c =
     elim c.if-not-self-i.branch [
       | then-not-self-i w ↦
           let step = missing_more (λ k. z) rs xs i (omega arith) (ap (λ m. get_or m.received i false) (sym c.loop-i.invariant.1) ∙ w.if-not-self-i.true) in (
-            ap (λ b. b.table.name) w.self-is ∙ c.loop-i.invariant.0,
+            ap (λ b. b.table.ghost_name) w.self-is ∙ c.loop-i.invariant.0,
             ap (λ b. b.marks) w.self-is ∙ c.loop-i.invariant.1,
             ap (λ b. b.table.now) w.self-is ∙ ap (λ x. set c.loop-i.self.table.now i x) w.zero.ensures ∙ ap (λ ys. set ys i z) c.loop-i.invariant.2 ∙ step,
           )
       | else-not-self-i w ↦
           let step = received_more (λ k. z) rs xs i (omega arith) (ap (λ m. get_or m.received i false) (sym c.loop-i.invariant.1) ∙ w.if-not-self-i.false) in (
-            ap (λ b. b.table.name) w.self-is ∙ c.loop-i.invariant.0,
+            ap (λ b. b.table.ghost_name) w.self-is ∙ c.loop-i.invariant.0,
             ap (λ b. b.marks) w.self-is ∙ c.loop-i.invariant.1,
             ap (λ b. b.table.now) w.self-is ∙ c.loop-i.invariant.2 ∙ step,
           )

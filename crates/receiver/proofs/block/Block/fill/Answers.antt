@@ -15,13 +15,13 @@ loop-c-preserved g c =
     elim c.if-not-self-c.branch [
       | then-not-self-c w ↦
           let step = missing_more f rs xs i (omega arith) (ap (λ m. get_or m.received i false) (sym c.loop-c.invariant.1) ∙ w.if-not-self-c.true) in (
-            ap (λ b. b.table.name) w.self-is ∙ c.loop-c.invariant.0,
+            ap (λ b. b.table.ghost_name) w.self-is ∙ c.loop-c.invariant.0,
             ap (λ b. b.marks) w.self-is ∙ c.loop-c.invariant.1,
             ap (λ b. b.table.now) w.self-is ∙ ap (λ x. set c.loop-c.self.table.now i x) w.symbol.ensures ∙ ap (λ ys. set ys i (f i)) c.loop-c.invariant.2 ∙ step,
           )
       | else-not-self-c w ↦
           let step = received_more f rs xs i (omega arith) (ap (λ m. get_or m.received i false) (sym c.loop-c.invariant.1) ∙ w.if-not-self-c.false) in (
-            ap (λ b. b.table.name) w.self-is ∙ c.loop-c.invariant.0,
+            ap (λ b. b.table.ghost_name) w.self-is ∙ c.loop-c.invariant.0,
             ap (λ b. b.marks) w.self-is ∙ c.loop-c.invariant.1,
             ap (λ b. b.table.now) w.self-is ∙ c.loop-c.invariant.2 ∙ step,
           )

@@ -1,5 +1,5 @@
-use Rattle.std.proofs.Common.{◌≡◌, ◌<◌, true, false, length, get_or, sym, refl, ap, ◌∙◌, arith}
-use Rattle.method.specs.Sets.{has, count}
+use Rattle.std.proofs.Common.{false, sym, refl, ap, arith}
+use Rattle.method.specs.Sets.{count}
 use Rattle.method.proofs.Counts.{count_clear}
 use Rattle.method.proofs.Marks.{lowest_some, lowest_none}
 use Rattle.policies.specs.Shown.{shown}
@@ -10,8 +10,8 @@ use Rattle.search.proofs.tally.Tally.lower.Goals as goal
 pub loop-q-init : goal.loop-q-init
 loop-q-init c = lowering_none (shown c.args.held.now) (shown c.args.unused.now) c.args.self.now
 
-pub lower-one-requires : goal.lower-one-requires
-lower-one-requires c =
+pub lower_one-requires : goal.lower_one-requires
+lower_one-requires c =
     let q = c.in-Some.q in
     let here = (lowest_some (λ b. b) false (shown c.loop-q.left) q (sym c.in-Some.ensures)).0 in
     let held = c.loop-q.invariant.part q here in
@@ -31,11 +31,11 @@ loop-q-preserved c =
     let here = (lowest_some (λ b. b) false left q (sym c.in-Some.ensures)).0 in
     let held = c.loop-q.invariant.part q here in
     let low = shown_below c.args.held.now q held in
-    lowering_more (shown c.args.held.now) (shown c.args.unused.now) left c.args.self.now t c.lower-one.new.self q c.loop-q.invariant here
+    lowering_more (shown c.args.held.now) (shown c.args.unused.now) left c.args.self.now t c.lower_one.new.self q c.loop-q.invariant here
     (omega (arith, low, c.requires.few, t.room)) (omega (arith, low, c.requires.width, c.loop-q.invariant.wide)) (omega (arith, left_count c.loop-q.invariant q here, c.requires.some q held))
-    c.lower-one.ensures.counts c.lower-one.ensures.ready (shown c.leave.new.self) c.leave.ensures
+    c.lower_one.ensures.counts c.lower_one.ensures.ready (shown c.leave.new.self) c.leave.ensures
 
 pub returns : goal.returns
 returns c =
     lowering_all (shown c.args.held.now) (shown c.args.unused.now) (shown c.loop-q.left) c.args.self.now c.loop-q.self c.loop-q.invariant
-    (lowest_none (λ b. b) false refl (shown c.loop-q.left) (sym c.in-default.ensures))
+    (lowest_none (λ b. b) false refl (shown c.loop-q.left) (sym c.in_default.ensures))

@@ -12,6 +12,6 @@ returns c =
     Decides-like _
     (λ zero. same_lists x.bytes (replicate 64 0) x.full (λ k d h. get_or_default x.bytes k d 0 h ∙ zero k (omega (arith, x.full)) ∙ sym (get_or-replicate 64 k 0 d (omega (arith, x.full)))))
     (λ e k h. ap (λ (bs : List ℕ). get_or bs k 0) e ∙ get_or-replicate 64 k 0 0 h)
-    c.all-zero.ensures
+    c.all_zero.ensures
     )
     (bytes_eq-Decides x.bytes (replicate 64 0))

@@ -4,7 +4,7 @@ use Rattle.receiver.proofs.block.runs.Block+Cell.packet.Goals as goal
 
 pub returns : goal.returns
 returns c = record {
-  lent = c.take-packet.ensures.lent;
-  step = c.take-packet.ensures.step;
-  history = goes_on cell_kind _ _ _ c.args.self.now.marks.few c.take-packet.ensures.step.step;
+  lent = c.take_packet.ensures.lent;
+  step = c.take_packet.ensures.step;
+  history = goes_on cell_kind _ _ _ c.args.self.now.marks.few c.take_packet.ensures.step.step;
 }

@@ -10,12 +10,12 @@ use Rattle.receiver.proofs.block.runs.Block+Cell.take_packet.Goals as goal
 pub returns : goal.returns
 returns c =
     let bs = c.args.bytes.now in
-    let h = header_read bs _ _ c.in-ok-block.ensures.answer in
-    let x = c.new.ensures.value ∙ ap cell_of (cell_read bs _ c.in-ok-cell.ensures) in
+    let h = header_read bs _ _ c.in_ok-block.ensures.answer in
+    let x = c.new.ensures.value ∙ ap cell_of (cell_read bs _ c.in_ok-cell.ensures) in
     record {
-      lent = c.in-ok-take.ensures.lent;
+      lent = c.in_ok-take.ensures.lent;
       step = record {
-        step = subst (λ e. Step cell_kind (model c.args.self.now) e (model c.take.new.self)) (λ i. received (h.1 i) c.args.stamp (h.2 i) (x i)) c.in-ok-take.ensures.step;
+        step = subst (λ e. Step cell_kind (model c.args.self.now) e (model c.take.new.self)) (λ i. received (h.1 i) c.args.stamp (h.2 i) (x i)) c.in_ok-take.ensures.step;
         fault = h.0;
       };
     }
