@@ -20,10 +20,13 @@ use Rattle.receiver.specs.Calls.Call.{solve}
 use Rattle.receiver.specs.Blocks.{Block, seen}
 use Rattle.receiver.specs.Solves.{search_of, found_of, after_search, answer_of, solve_event, outcome, solved, solved_by, named}
 use Rattle.receiver.specs.Stands.{GoesOn}
+use Rattle.receiver.specs.View.{model}
 use Rattle.session.specs.Holding.{Holding}
 use Rattle.session.specs.Naming.{named_choice}
 use Rattle.session.specs.Obeying.{permit_of, Setting, Acted, Solves, SolvesWith, FreeFor, solved_entry, hand_after}
 use Rattle.session.specs.Sides.{Side, side, Solved, PileSolved, solve_by, coded, pile_at, pile_in, code_in}
+use Rattle.session.specs.Tasks.{SolvedStill}
+use Rattle.session.specs.declared.solving.SolveTask.{SolveTask}
 use Rattle.session.specs.declared.named.Named.{Named}
 use Rattle.session.specs.declared.order.Order.TheVariants as order
 use Rattle.session.specs.declared.order.Entry.{Entry}
@@ -98,13 +101,14 @@ free_for K (Ok k) p ws ss m m' None (Ok a) h s = refl
 free_for K (Ok k) p ws ss m m' (Some b) (Ok a) h s = absurd (none_while_out K k p ws ss m m' b a h s)
 free_for K (Ok k) p ws ss m m' q (Err u) h s = tt
 
--- a solve with the code of a pile, from what its task did
-pub pile_told : {S B : Type 0} (f : B → Block S) (K : Kind S) (p : PolicyName) (ws ss : ℕ) (k : Result Matrix Cause) (b b' : B) (r : Result (Result Permit Unsolved) Refusal)
-    → Done (λ b k r b'. Solved K k p ws ss (f b) r (f b')) b b' k r → PileSolved K k p ws ss (f b) r (f b')
-pile_told f K p ws ss (Ok k) b b' (Ok r) d = d
-pile_told f K p ws ss (Ok k) b b' (Err e) d = absurd d
-pile_told f K p ws ss (Err c) b b' (Ok r) d = absurd d
-pile_told f K p ws ss (Err c) b b' (Err e) d = ap f d.1
+-- a solve with the code of a pile, from what its task did; the block is still the one that was lent
+pub pile_told : {S : Type 0} (K : Kind S) (k : Result Matrix Cause) (s t : SolveTask S) (r : Result (Result Permit Unsolved) Refusal)
+    → Done (λ s k r t. SolvedStill K k s r t) s t k r
+    → PileSolved K k s.name (length s.words.now) (length s.sides.now) (model s.block.now) r (model t.block.now) × (t.block.ghost_name ≡ s.block.ghost_name)
+pile_told K (Ok k) s t (Ok r) d = (d.solved, d.lent)
+pile_told K (Ok k) s t (Err e) d = absurd d
+pile_told K (Err c) s t (Ok r) d = absurd d
+pile_told K (Err c) s t (Err e) d = (ap (λ t. model t.block.now) d.1, ap (λ t. t.block.ghost_name) d.1)
 
 module _ {S : Type 0} (g : Setting S) (m m' : Block S) (c : Option ℕ) (p : PolicyName) (ws ss : ℕ) (q other : Option Permit) where
   abbrev Enough : Type 0

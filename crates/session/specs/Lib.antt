@@ -4,4 +4,5 @@ pub mod Naming
 pub mod Obeying
 pub mod Sessions
 pub mod Sides
+pub mod Tasks
 pub mod NamedPolicyLemmas

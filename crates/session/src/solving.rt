@@ -2,7 +2,8 @@
 ghost use Rattle.std.specs.Prelude.{length};
 ghost use Rattle.piles.specs.Piles.{pile_code};
 ghost use Rattle.receiver.specs.View.{model};
-ghost use Rattle.session.specs.Sides.{Solved, PileSolved};
+ghost use Rattle.session.specs.Sides.{PileSolved};
+ghost use Rattle.session.specs.Tasks.{SolvedStill};
 
 use crate::named::Named;
 use codes::{Code, Refusal};
@@ -11,23 +12,23 @@ use policies::Policy;
 use receiver::{Block, Permit, Unsolved};
 use symbols::Symbol;
 
-// Solves with whatever code it is handed.
+// Solves a block with whatever code it is handed.
 #[derive(Drop)]
-pub(crate) struct SolveTask<'t, S> {
+pub(crate) struct SolveTask<'t, 'a, S> {
+    block: &'t mut Block<'a, S>,
     name: PolicyName,
     words: &'t mut [u64],
     sides: &'t mut [S],
 }
 
-impl<'t, 'a, S: Symbol> Task<Block<'a, S>> for SolveTask<'t, S> {
+impl<'t, 'a, S: Symbol> Task for SolveTask<'t, 'a, S> {
     type Out = Result<Permit, Unsolved>;
 
-    ghost does = { λ s b k r b'. Solved S.Symbol.kind k s.name (length s.words.now) (length s.sides.now) (model b) r (model b') };
+    ghost does = { λ s k r t. SolvedStill S.Symbol.kind k s r t };
 
-    fn run<C: Code>(self, lent: &mut Block<'a, S>, code: &C) -> Result<Permit, Unsolved> {
-        let SolveTask { name, words, sides } = self;
-        let mut policy = Named { name };
-        lent.solve(code, &mut policy, words, sides)
+    fn run<C: Code>(&mut self, code: &C) -> Result<Permit, Unsolved> {
+        let mut policy = Named { name: self.name };
+        self.block.solve(code, &mut policy, self.words, self.sides)
     }
 }
 
@@ -41,6 +42,6 @@ pub(crate) fn solve_pile<S: Symbol>(
 ) -> Result<Result<Permit, Unsolved>, Refusal>
     ensures { PileSolved S.Symbol.kind (pile_code pile.now) name (length words.old) (length sides.old) (model block.old) result (model block.new) }
 {
-    let task = SolveTask { name, words, sides };
-    with_code(pile, task, block)
+    let mut task = SolveTask { block, name, words, sides };
+    with_code(pile, &mut task)
 }

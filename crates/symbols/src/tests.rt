@@ -39,8 +39,9 @@ fn a_cell_with_itself_is_zero_in_every_byte(rt: HostRuntime) {
     let mut sum = x;
     sum.add(&x);
     for i in 0..64 {
-        assert_eq!(rt; x.bytes[i] as usize, i + 1);
-        assert_eq!(rt; sum.bytes[i], 0);
+        let (byte, summed) = (x.bytes[i], sum.bytes[i]);
+        assert_eq!(rt; byte as usize, i + 1);
+        assert_eq!(rt; summed, 0);
     }
     assert!(rt; sum.is_zero());
     assert!(rt; !x.is_zero());
@@ -57,15 +58,17 @@ fn a_cell_is_not_zero_by_its_last_byte(rt: HostRuntime) {
 #[test]
 fn a_dated_cell_sums_in_both_parts(rt: HostRuntime) {
     let unit: Dated = <crate::kinds::Pair<_, _> as Symbol>::unit();
-    assert_eq!(rt; unit.first.bytes[0], 1);
+    let unit_byte = unit.first.bytes[0];
+    assert_eq!(rt; unit_byte, 1);
     assert_eq!(rt; unit.second.value, 0);
     let mut x = Dated {
         first: Cell::new(rising()),
         second: Word { value: 9 },
     };
     x.add(&unit);
-    assert_eq!(rt; x.first.bytes[0], 0);
-    assert_eq!(rt; x.first.bytes[1], 2);
+    let (byte, next_byte) = (x.first.bytes[0], x.first.bytes[1]);
+    assert_eq!(rt; byte, 0);
+    assert_eq!(rt; next_byte, 2);
     assert_eq!(rt; x.second.value, 9);
     assert!(rt; !x.is_zero());
 }

@@ -11,8 +11,8 @@ use Rattle.session.proofs.acting.obey_solve.Goals as goal
 pub returns-then-short : goal.returns-then-short
 returns-then-short g c other = too_little _ _ _ _ _ _ _ other c.if-short.ensures
 
-pub returns-in-default : goal.returns-in-default
-returns-in-default g c other = without_pile _ _ _ _ _ _ _ _ other c.if-short.ensures (sym c.in-default.ensures) refl
+pub returns-in_default : goal.returns-in_default
+returns-in_default g c other = without_pile _ _ _ _ _ _ _ _ other c.if-short.ensures (sym c.in_default.ensures) refl
 
 pub solved-requires : goal.solved-requires
 solved-requires g c = free_for g.S.Symbol.kind _ _ _ _ _ _ c.args.held c.in-Ok.answer c.requires c.in-Ok.ensures
@@ -21,10 +21,10 @@ pub returns-in-Ok : goal.returns-in-Ok
 returns-in-Ok g c other =
     let K = g.S.Symbol.kind in
     let m = model c.args.block.now in
-    let m' = model c.solve-pile.new.block in
+    let m' = model c.solve_pile.new.block in
     let pile = c.in-Some.pile.now in
     let r = c.in-Ok.answer in
-    let made : PileSolved K (pile_code pile) c.args.policy c.args.asked-words c.args.symbols m (Ok r) m' =
+    let made : PileSolved K (pile_code pile) c.args.policy c.args.asked_words c.args.symbols m (Ok r) m' =
     subst (λ n. PileSolved K (pile_code pile) c.args.policy n c.args.symbols m (Ok r) m') c.front-words.ensures (subst (λ n. PileSolved K (pile_code pile) c.args.policy (length c.front-words.result.now) n m (Ok r) m') c.front-sides.ensures c.in-Ok.ensures) in
     solved_so _ m m' _ _ _ _ _ other pile r _ _ c.if-short.ensures (sym c.in-Some.ensures) made c.solved.ensures.entry c.solved.ensures.hand
 
@@ -32,9 +32,9 @@ pub returns-in-Err : goal.returns-in-Err
 returns-in-Err g c other =
     let K = g.S.Symbol.kind in
     let m = model c.args.block.now in
-    let m' = model c.solve-pile.new.block in
+    let m' = model c.solve_pile.new.block in
     let pile = c.in-Some.pile.now in
-    let e = c.in-Err.-none in
-    let made : PileSolved K (pile_code pile) c.args.policy c.args.asked-words c.args.symbols m (Err e) m' =
+    let e = c.in-Err._none in
+    let made : PileSolved K (pile_code pile) c.args.policy c.args.asked_words c.args.symbols m (Err e) m' =
     subst (λ n. PileSolved K (pile_code pile) c.args.policy n c.args.symbols m (Err e) m') c.front-words.ensures (subst (λ n. PileSolved K (pile_code pile) c.args.policy (length c.front-words.result.now) n m (Err e) m') c.front-sides.ensures c.in-Err.ensures) in
     with_no_code _ m m' _ _ _ _ _ other pile e c.if-short.ensures (sym c.in-Some.ensures) made

@@ -1,9 +1,9 @@
-use Rattle.std.proofs.Common.{length}
+use Rattle.std.proofs.Common.{rules}
 use Rattle.piles.specs.Piles.{pile_code}
-use Rattle.receiver.specs.View.{model}
 use Rattle.session.proofs.Solves.{pile_told}
 use Rattle.session.proofs.solving.solve_pile.Goals as goal
 
 pub returns : goal.returns
 returns g c =
-    pile_told model g.S.Symbol.kind c.args.name (length c.args.words.now) (length c.args.sides.now) (pile_code c.args.pile.now) c.args.block.now c.with-code.new.lent c.with-code.result c.with-code.ensures
+    let told = pile_told g.S.Symbol.kind (pile_code c.args.pile.now) _ c.with_code.new.task c.with_code.result c.with_code.ensures in
+    search (told.0, told.1, rules)
