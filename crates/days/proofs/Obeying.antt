@@ -1,11 +1,11 @@
 -- Each order with its entry: what it makes of a day, from what the block's call ensures.
-use Rattle.std.proofs.Common.{◌≡◌, ℕ, Bool, true, false, List, [], ◌∷◌, ◌++◌, length, Some, None, Ok, Err, Option, Result, sym, refl, ap, ◌∙◌, subst, arith}
+use Rattle.std.proofs.Common.{◌≡◌, ℕ, false, List, [], ◌∷◌, ◌++◌, length, Some, None, Ok, Err, Option, Result, sym, refl, ap, ◌∙◌, subst, arith}
 use borrow.Author.Tests.{clash}
 use Rattle.symbols.specs.Kinds.{Kind}
 use Rattle.codes.specs.Matrix.{Matrix}
 use Rattle.method.specs.Method.{Choice, Outcome}
 use Rattle.method.specs.Method.Outcome.{none, one, several}
-use Rattle.receiver.specs.declared.block.Out.TheVariants.{Nothing, Full}
+use Rattle.receiver.specs.declared.block.Out.TheVariants.{Full}
 use Rattle.receiver.specs.declared.fault.Fault.{Fault}
 use Rattle.receiver.specs.declared.fault.Unsolved.{Unsolved}
 use Rattle.receiver.specs.declared.permit.Permit.{Permit}
@@ -13,12 +13,12 @@ use Rattle.receiver.specs.Calls.{refusal, is_out}
 use Rattle.receiver.specs.Calls.Call.{solve}
 use Rattle.receiver.specs.History.{Event, Opened, Truths}
 use Rattle.receiver.specs.History.Event.{closed}
-use Rattle.receiver.specs.Blocks.{Block, seen, filled, closed_block, renewed_block}
+use Rattle.receiver.specs.Blocks.{Block, seen, filled, renewed_block}
 use Rattle.receiver.specs.Steps.{Step, receive_event, renew_event}
-use Rattle.receiver.specs.Solves.{Done, search_of, found_of, after_search, answer_of, solve_event, outcome, named, solved, solved_by}
+use Rattle.receiver.specs.Solves.{search_of, found_of, after_search, answer_of, solve_event, outcome, named, solved, solved_by}
 use Rattle.receiver.specs.Stands.{GoesOn}
 use Rattle.receiver.proofs.Refusing.{no_cause}
-use Rattle.days.specs.Days.{Now, now_of, permit_of, answer_with, Holding, Obeyed, on, day_on, DayTrue}
+use Rattle.days.specs.Days.{Now, now_of, permit_of, Holding, Obeyed, on, day_on, DayTrue}
 use Rattle.days.specs.declared.order.Order.{Order}
 use Rattle.days.specs.declared.order.Entry.{Entry}
 use Rattle.days.specs.declared.order.Order.TheVariants.{Receive, Solve, Show, Close, Renew}

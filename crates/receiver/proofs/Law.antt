@@ -1,21 +1,21 @@
 -- The law behind every promise over histories: a call that does its step goes on with whatever history stood before it.
-use Rattle.std.proofs.Common.{◌≡◌, ℕ, ◌*◌, ◌<◌, ◌≤◌, Bool, true, false, cond, not, ◌&&◌, ◌||◌, eqb, ltb, leb, ◌≢◌, ◌↔◌, List, [], ◌∷◌, length, get_or, take, drop, set, replicate, Some, None, Option, sym, refl, ap, ◌∙◌, subst, arith, length-set, get_or-set_other, get_or-set_same, ltb-false, eqb-true, leb-false, leb-true}
+use Rattle.std.proofs.Common.{◌≡◌, ℕ, ◌<◌, ◌≤◌, Bool, true, false, ◌||◌, eqb, ltb, ◌≢◌, List, [], ◌∷◌, length, get_or, take, set, replicate, Some, None, Option, sym, refl, ap, ◌∙◌, subst, arith, length-set, get_or-set_other, get_or-set_same, ltb-false, eqb-true, leb-false}
 use lib.ListN.{length-replicate, get_or-replicate}
 use borrow.Author.Tests.{eqb-false, not-false, clash, both_ways}
 use Rattle.std.specs.List.{AllByRecursion as All}
 use Rattle.std.proofs.ByRecursion.{All-weaker}
 use Rattle.symbols.specs.Kinds.{Kind}
-use Rattle.receiver.specs.declared.block.Out.TheVariants.{Nothing, Full}
+use Rattle.receiver.specs.declared.block.Out.TheVariants.{Nothing}
 use Rattle.receiver.specs.declared.fault.Fault.TheVariants.{BlockNumber, NoStamp, TableLength}
 use Rattle.receiver.specs.Calls.{Call, refusal, open_refusal}
-use Rattle.receiver.specs.Calls.Call.{receive, solve, show, close, renew}
-use Rattle.receiver.specs.History.{Opened, Event, Packet, Solved, Told, after, told, borne, missing, view, Agrees, Under, InFound, Truth}
+use Rattle.receiver.specs.Calls.Call.{receive, show, close, renew}
+use Rattle.receiver.specs.History.{Opened, Event, Packet, Solved, Told, after, told, borne, view, Under, InFound, Truth}
 use Rattle.receiver.specs.History.Event.{refused, unread, received, searched, shown, closed, renewed}
-use Rattle.receiver.specs.Blocks.{Block, seen, zero_missing, closed_block, renewed_block, opened, opened_by}
+use Rattle.receiver.specs.Blocks.{Block, seen, closed_block, renewed_block, opened, opened_by}
 use Rattle.receiver.specs.Steps.{Step}
 use Rattle.receiver.specs.Stands.{opening, Kept, IsFound, Tied, Stands, GoesOn}
 use Rattle.receiver.proofs.Refusing.{no_cause, refusal_same, owned, not_out, nothing_full}
-use Rattle.receiver.proofs.Packets.{all_both, all_borne, some_bears}
+use Rattle.receiver.proofs.Packets.{all_both, all_borne}
 use Rattle.receiver.proofs.Zeroing.{get_or_zero_missing, length_zero_missing, length_zeroed}
 
 module _ {S : Type 0} (K : Kind S) where

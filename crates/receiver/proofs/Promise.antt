@@ -1,5 +1,5 @@
 -- A solve that does what the method says goes on with any history.
-use Rattle.std.proofs.Common.{◌≡◌, ℕ, ◌≤◌, Bool, cond, not, List, [], ◌∷◌, length, take, Some, None, Option, Result, sym, refl, ap, ◌∙◌, subst, arith, length-take-le, eqb-true}
+use Rattle.std.proofs.Common.{◌≡◌, ℕ, ◌≤◌, List, [], ◌∷◌, length, take, Some, None, Option, Result, sym, refl, ◌∙◌, subst, arith, length-take-le, eqb-true}
 use borrow.Author.Tests.{not-false}
 use Rattle.symbols.specs.Kinds.{Kind, Laws}
 use Rattle.codes.specs.Matrix.{Matrix, Lawful}
@@ -14,10 +14,10 @@ use Rattle.receiver.specs.declared.fault.Unsolved.{Unsolved}
 use Rattle.receiver.specs.declared.permit.Permit.{Permit}
 use Rattle.receiver.specs.Calls.{Search, refusal}
 use Rattle.receiver.specs.Calls.Call.{solve}
-use Rattle.receiver.specs.History.{Event, pivots, told}
+use Rattle.receiver.specs.History.{pivots}
 use Rattle.receiver.specs.History.Event.{refused, searched}
 use Rattle.receiver.specs.Blocks.{Block, seen}
-use Rattle.receiver.specs.Solves.{Done, search_of, found_of, after_search, answer_of, solve_event, outcome, named, solved, solved_by}
+use Rattle.receiver.specs.Solves.{search_of, found_of, after_search, answer_of, solve_event, outcome, named, solved, solved_by}
 use Rattle.receiver.specs.Stands.{GoesOn}
 use Rattle.receiver.proofs.Refusing.{no_cause}
 use Rattle.receiver.proofs.Law.{goes_on}

@@ -1,5 +1,5 @@
 -- What refuses a call: views that agree refuse alike, and a granted call has no cause.
-use Rattle.std.proofs.Common.{◌≡◌, ℕ, ◌*◌, ◌<◌, ◌≤◌, Bool, true, false, cond, not, ◌&&◌, ◌||◌, eqb, ltb, leb, List, [], ◌∷◌, Some, None, Option, sym, refl, ap, ◌∙◌, arith, eqb-true, leb-false}
+use Rattle.std.proofs.Common.{◌≡◌, ℕ, ◌<◌, Bool, true, false, cond, not, ◌&&◌, eqb, leb, [], ◌∷◌, Some, None, Option, sym, refl, ap, ◌∙◌, arith, eqb-true, leb-false}
 use borrow.Author.Tests.{clash}
 use Rattle.refusals.specs.Refusals.{if_so, first_of}
 use Rattle.symbols.specs.Kinds.{Kind}
@@ -7,9 +7,8 @@ use Rattle.codes.specs.Matrix.{height}
 use Rattle.receiver.specs.declared.block.Out.{Out}
 use Rattle.receiver.specs.declared.block.Out.TheVariants.{Nothing, Full}
 use Rattle.receiver.specs.declared.permit.Permit.{Permit}
-use Rattle.receiver.specs.declared.fault.Fault.{Fault}
 use Rattle.receiver.specs.declared.fault.Fault.TheVariants.{NoStamp, OtherWidth, PermitOut, OtherBlock, OtherStamp, NoPlace, Received, NotLater, ShortMemory, NotItsPermit}
-use Rattle.receiver.specs.Calls.{Search, Call, View, is_out, owns, too_short, refusal}
+use Rattle.receiver.specs.Calls.{Call, View, is_out, owns, too_short, refusal}
 use Rattle.receiver.specs.Calls.Call.{receive, solve, show, close, renew}
 
 -- where no cause holds, the first does not, and none of the rest

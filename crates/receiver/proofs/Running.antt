@@ -1,5 +1,5 @@
 -- Runs of packets: how one packet more, or the refused one, makes a run; and that a run goes on with any history.
-use Rattle.std.proofs.Common.{◌≡◌, ℕ, ◌+◌, ◌<◌, ◌≤◌, Bool, true, false, cond, eqb, ◌⊎◌, List, [], ◌∷◌, length, take, drop, Ok, Err, Result, sym, refl, ap, ◌∙◌, subst, inl, inr, arith, eq-eqb, eqb-true}
+use Rattle.std.proofs.Common.{◌≡◌, ℕ, ◌+◌, ◌<◌, ◌≤◌, Bool, true, false, cond, eqb, List, [], ◌∷◌, length, take, drop, Ok, Err, Result, sym, refl, ap, subst, inl, inr, arith, eq-eqb, eqb-true}
 use borrow.Author.Tests.{clash}
 use Rattle.symbols.specs.Cells.{cell_kind}
 use Rattle.symbols.specs.declared.kinds.Cell.{Cell}

@@ -1,17 +1,15 @@
 -- A search on a block that a history stands of answers as its packets taken say.
-use Rattle.std.proofs.Common.{◌≡◌, ℕ, ◌<◌, ◌≤◌, Bool, true, false, not, ◌&&◌, eqb, ltb, leb, ◌↔◌, List, [], ◌∷◌, ◌++◌, map, length, get_or, take, drop, Some, None, Ok, Err, Result, sym, refl, ap, ◌∙◌, subst, append-nil, arith, length-take, length-take-le, le-ltb, lt-ltb, eqb-true, leb-false, leb-true}
+use Rattle.std.proofs.Common.{◌≡◌, ℕ, ◌<◌, Bool, true, false, not, ◌&&◌, ltb, leb, ◌↔◌, List, ◌++◌, length, get_or, take, drop, None, sym, refl, ap, ◌∙◌, subst, append-nil, arith, length-take, length-take-le, le-ltb, lt-ltb, eqb-true, leb-false, leb-true}
 use lib.ListN.{length-map}
 use borrow.Author.Tests.{not-false, both_ways}
-use Rattle.std.specs.List.{AllByRecursion as All}
 use Rattle.std.proofs.lemmas.List.{get_or-take, get_or_past, get_or-map, drop_all}
 use Rattle.symbols.specs.Kinds.{Kind}
 use Rattle.codes.specs.Matrix.{Matrix}
 use Rattle.method.specs.Sets.{has}
 use Rattle.method.specs.Method.{Outcome, missing}
 use Rattle.method.specs.Method.Outcome.{none, one, several}
-use Rattle.method.specs.Fillings.{Agreeing, No, Only, One, Two, Exactly, pivots_of}
+use Rattle.method.specs.Fillings.{Agreeing, No, Only, Exactly}
 use Rattle.method.specs.Stopping.{Stopping, NamedInTurn}
-use Rattle.receiver.specs.declared.block.Out.TheVariants.{Nothing, Full}
 use Rattle.receiver.specs.Calls.{Search, refusal}
 use Rattle.receiver.specs.Calls.Call.{solve}
 use Rattle.receiver.specs.History.{Opened, Event, Told, after, told, borne, view, Agrees, Found, Bears, Searched, answer, pivots}
@@ -19,9 +17,9 @@ use Rattle.receiver.specs.History as history
 use Rattle.receiver.specs.History.Event.{refused, searched}
 use Rattle.receiver.specs.Blocks.{Block, seen}
 use Rattle.receiver.specs.Solves.{found_of, after_search}
-use Rattle.receiver.specs.Stands.{Kept, Tied, Stands, GoesOn}
+use Rattle.receiver.specs.Stands.{Tied}
 use Rattle.receiver.proofs.Counting.{Right, no_same, only_same, two_same, none_right, one_right, several_right}
-use Rattle.receiver.proofs.Refusing.{no_cause, not_out}
+use Rattle.receiver.proofs.Refusing.{no_cause}
 use Rattle.receiver.proofs.Packets.{all_both, all_borne, some_bears}
 use Rattle.receiver.proofs.Stalls.{stopping_on, stopping_back, named_on}
 use Rattle.receiver.proofs.Law.{by_table, under}

@@ -1,11 +1,11 @@
 -- What a solve leaves, from the search that it makes and the table that it fills.
-use Rattle.std.proofs.Common.{◌≡◌, ℕ, zero, suc, ◌*◌, ◌<◌, ◌≤◌, min, Bool, true, false, cond, not, ◌||◌, eqb, ltb, List, [], ◌∷◌, ◌++◌, length, get_or, take, drop, replicate, Some, None, Ok, Err, Option, Result, sym, refl, ap, ◌∙◌, subst, arith, length-take, length-take-le, eq-eqb, eqb-true}
+use Rattle.std.proofs.Common.{◌≡◌, ℕ, zero, suc, ◌<◌, ◌≤◌, min, Bool, true, false, cond, not, eqb, List, [], ◌∷◌, ◌++◌, length, get_or, take, drop, replicate, Some, None, Ok, Err, Option, Result, sym, refl, ap, ◌∙◌, subst, arith, length-take-le, eq-eqb, eqb-true}
 use Rattle.std.proofs.lemmas.List.{get_or-take}
 use Rattle.refusals.specs.Refusals.{first_of}
 use Rattle.symbols.specs.Kinds.{Kind}
 use Rattle.codes.specs.Matrix.{Matrix, height}
 use Rattle.method.specs.Sets.{has, table, lowest}
-use Rattle.method.specs.Method.{Choice, Outcome, Row, clash as clashes, filled, row_for, answer_at, answer, method, final}
+use Rattle.method.specs.Method.{Choice, Outcome, clash as clashes, filled, row_for, answer_at, answer, method, final}
 use Rattle.method.specs.Method.Outcome.{none, one, several}
 use Rattle.search.specs.declared.answer.Unfound.{Unfound}
 use Rattle.search.specs.declared.answer.Unfound.TheVariants as lacks
@@ -22,10 +22,10 @@ use Rattle.receiver.specs.declared.fault.Fault.TheVariants as fault
 use Rattle.receiver.specs.declared.fault.Unsolved.{Unsolved}
 use Rattle.receiver.specs.declared.fault.Unsolved.TheVariants as unsolved
 use Rattle.receiver.specs.declared.permit.Permit.{Permit}
-use Rattle.receiver.specs.Calls.{refusal, is_out, too_short}
+use Rattle.receiver.specs.Calls.{refusal, is_out}
 use Rattle.receiver.specs.Calls.Call.{solve}
 use Rattle.receiver.specs.Blocks.{Block, seen, fill_missing, with_table}
-use Rattle.receiver.specs.Solves.{Done, Sought, Sought_by, as_unsolved, search_of, found_of, after_search, answer_of, outcome, solved, solved_by, seek_causes}
+use Rattle.receiver.specs.Solves.{Sought, Sought_by, as_unsolved, search_of, found_of, after_search, answer_of, outcome, solved, solved_by}
 use Rattle.receiver.proofs.Refusing.{no_cause}
 use Rattle.receiver.proofs.Zeroing.{fill_same, fill_places}
 

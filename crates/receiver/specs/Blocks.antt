@@ -5,14 +5,13 @@
 --   received_count, mark_at, told_refusal    what a block tells of itself
 --   filled, closed_block, renewed_block, fresh-block    the block after a granted call
 --   fill_missing, zero_missing    a table with each missing place filled, or zero
-use Rattle.std.specs.Prelude.{◌≡◌, ℕ, suc, Bool, true, false, cond, List, [], ◌∷◌, ◌++◌, length, take, drop, replicate, Some, None, count_by, Option, ◌==◌, nat_lt, slice_index_or, slice_set}
+use Rattle.std.specs.Prelude.{ℕ, suc, Bool, true, false, cond, List, [], ◌∷◌, ◌++◌, length, take, drop, replicate, Some, None, count_by, Option, ◌==◌, nat_lt, slice_index_or, slice_set}
 use Rattle.symbols.specs.Kinds.{Kind}
 use Rattle.receiver.specs.declared.block.Out.{Out}
-use Rattle.receiver.specs.declared.block.Out.TheVariants.{Nothing, Full}
+use Rattle.receiver.specs.declared.block.Out.TheVariants.{Nothing}
 use Rattle.receiver.specs.declared.fault.Fault.{Fault}
 use Rattle.receiver.specs.Refusals.{meaning, value_of}
-use Rattle.receiver.specs.Calls.{View, Call, refusal, open_refusal}
-use Rattle.receiver.specs.Calls.Call.{receive, solve, show, close, renew}
+use Rattle.receiver.specs.Calls.{View, open_refusal}
 
 -- n places; the caller's whole table; a flag for each place that was received; number and value of the refusal of its
 -- open, 0 where it was granted

@@ -7,7 +7,7 @@
 --   causes        the causes that refuse a call, in their order
 --   refusal       the first of them that holds; none where the call is granted or, of a solve, reaches its search
 --   open_refusal  what refuses an open
-use Rattle.std.specs.Prelude.{ℕ, ◌*◌, Bool, true, false, cond, not, ◌&&◌, ◌||◌, List, [], ◌∷◌, Some, None, Option, ◌==◌, nat_le, nat_lt}
+use Rattle.std.specs.Prelude.{ℕ, ◌*◌, Bool, true, false, not, ◌&&◌, ◌||◌, List, [], ◌∷◌, Option, ◌==◌, nat_le, nat_lt}
 use Rattle.refusals.specs.Refusals.{Cause, if_so, first_of}
 use Rattle.symbols.specs.Kinds.{Kind}
 use Rattle.codes.specs.Matrix.{Matrix, height}

@@ -3,7 +3,7 @@
 --   value_of      the first of the values
 --   meaning       what a fault of a block means
 --   unsolved      what it means that a solve gave no permit
-use Rattle.std.specs.Prelude.{ℕ, List, [], ◌∷◌, slice_index}
+use Rattle.std.specs.Prelude.{ℕ, [], ◌∷◌, slice_index}
 use Rattle.refusals.specs.Refusals.{Refusal, refusal}
 use Rattle.receiver.specs.declared.fault.Fault.{Fault}
 use Rattle.receiver.specs.declared.fault.Fault.TheVariants.{BlockNumber, NoStamp, TableLength, OtherWidth, PermitOut, OtherBlock, OtherStamp, NoPlace, Received, NotLater, ShortMemory, NotItsPermit}

@@ -8,7 +8,7 @@
 --   solved        what a solve leaves, of a block, a policy and working memory
 --   Sought        the search of a solve, before the block is filled
 --   solve_event   the event that a solve and its answer make
-use Rattle.std.specs.Prelude.{◌≡◌, ℕ, ◌*◌, Bool, false, not, List, [], ◌∷◌, ◌++◌, length, take, drop, replicate, Some, None, Ok, Err, Option, Result, ◌==◌}
+use Rattle.std.specs.Prelude.{◌≡◌, ℕ, ◌*◌, not, List, [], ◌∷◌, ◌++◌, length, take, drop, Some, None, Ok, Err, Option, Result, ◌==◌}
 use Rattle.symbols.specs.Kinds.{Kind}
 use Rattle.codes.specs.Matrix.{Matrix, height}
 use Rattle.method.specs.Method.{Choice, Outcome, method, final}
@@ -24,7 +24,6 @@ use Rattle.search.specs.Found.{wiped}
 use Rattle.receiver.specs.declared.block.Out.TheVariants.{Full}
 use Rattle.receiver.specs.declared.fault.Fault.{Fault}
 use Rattle.receiver.specs.declared.fault.Fault.TheVariants as fault
-use Rattle.search.specs.declared.answer.Report.{Report}
 use Rattle.receiver.specs.declared.fault.Unsolved.{Unsolved}
 use Rattle.receiver.specs.declared.fault.Unsolved.TheVariants.{Refused, NoCodeword, Several}
 use Rattle.receiver.specs.declared.permit.Permit.{Permit}

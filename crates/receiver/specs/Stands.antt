@@ -5,11 +5,11 @@
 --   Tied          the block's values are what the calls and answers tell
 --   Stands        the events were true, and the block is tied to them
 --   GoesOn        whatever history stands of a block, with this event more it stands of the block after it
-use Rattle.std.specs.Prelude.{◌≡◌, ℕ, ◌<◌, ◌≤◌, Bool, true, false, List, [], ◌∷◌, ◌++◌, length, get_or, Some, None, Option, slice_index_or}
+use Rattle.std.specs.Prelude.{◌≡◌, ℕ, ◌<◌, ◌≤◌, false, List, ◌++◌, length, get_or, Some, None, Option, slice_index_or}
 use Rattle.std.specs.List.{AllByRecursion as All}
 use Rattle.symbols.specs.Kinds.{Kind}
 use Rattle.method.specs.Fillings.{Only}
-use Rattle.receiver.specs.declared.block.Out.TheVariants.{Nothing, Full}
+use Rattle.receiver.specs.declared.block.Out.TheVariants.{Full}
 use Rattle.receiver.specs.History.{Opened, Event, Packet, Solved, Told, told, borne, Agrees, Truths}
 use Rattle.receiver.specs.Blocks.{Block}
 

@@ -3,13 +3,13 @@
 --   Step          the first cause that refuses a call refuses it and leaves the block; a granted call does its work
 --   Follows       the events of a list, newest first, one step after another
 --   receive_event, packet_event, show_event, close_event, renew_event    the event that a call and its answer make
-use Rattle.std.specs.Prelude.{◌≡◌, ℕ, Bool, false, List, [], ◌∷◌, Some, None, Ok, Err, Result, ◌==◌, slice_index_or}
+use Rattle.std.specs.Prelude.{◌≡◌, ℕ, false, Some, None, Ok, Err, Result, ◌==◌, slice_index_or}
 use Rattle.symbols.specs.Kinds.{Kind}
 use Rattle.receiver.specs.declared.fault.Fault.{Fault}
 use Rattle.receiver.specs.declared.fault.Fault.TheVariants.{NotItsPermit}
 use Rattle.receiver.specs.declared.permit.Permit.{Permit}
 use Rattle.receiver.specs.declared.permit.Unclosed.{Unclosed}
-use Rattle.receiver.specs.Calls.{Call, refusal}
+use Rattle.receiver.specs.Calls.{refusal}
 use Rattle.receiver.specs.Calls.Call.{receive, show, close, renew}
 use Rattle.receiver.specs.History.{Event}
 use Rattle.receiver.specs.History.Event.{refused, unread, received, searched, shown, closed, renewed}

@@ -1,5 +1,5 @@
 -- Each call with its entry: what it makes of a side, from what the block's call ensures.
-use Rattle.std.proofs.Common.{◌≡◌, ℕ, Bool, true, false, List, [], ◌∷◌, length, Some, None, Ok, Err, vec_items, MatchBool, Option, Result, Vec, sym, refl, ap, ◌∙◌, subst}
+use Rattle.std.proofs.Common.{◌≡◌, ℕ, Bool, true, false, List, [], ◌∷◌, Some, None, Ok, vec_items, MatchBool, Option, Result, sym, refl, ap, subst}
 use Rattle.packets.specs.Figure.{percent}
 use Rattle.receiver.specs.declared.fault.Fault.{Fault}
 use Rattle.receiver.specs.declared.fault.Fault.TheVariants.{NotItsPermit}

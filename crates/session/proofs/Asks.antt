@@ -1,5 +1,5 @@
 -- One call on the side that it goes to: an open, a call on a block that was never opened, and any other.
-use Rattle.std.proofs.Common.{◌≡◌, ℕ, ◌+◌, ◌≤◌, Bool, true, false, cond, ◌||◌, eqb, ltb, List, [], ◌∷◌, length, is_some, Some, None, Ok, Err, MatchBool, Option, sym, refl, ap, ◌∙◌, subst, arith, le-ltb}
+use Rattle.std.proofs.Common.{◌≡◌, ℕ, ◌+◌, Bool, true, false, cond, eqb, ltb, List, [], length, is_some, Some, None, Ok, MatchBool, Option, sym, refl, ap, ◌∙◌, subst, arith, le-ltb}
 use Rattle.std.specs.List.{AllByRecursion as All}
 use Rattle.symbols.specs.Kinds.{Kind}
 use Rattle.receiver.specs.declared.block.Out.TheVariants.{Nothing}
@@ -9,7 +9,6 @@ use Rattle.receiver.specs.Blocks.{Block, opened, opened_by}
 use Rattle.receiver.specs.Calls.{open_refusal}
 use Rattle.receiver.specs.History.{Event, Opened}
 use Rattle.receiver.specs.Stands.{Stands, opening}
-use Rattle.session.specs.Holding.{Holding}
 use Rattle.session.specs.Obeying.{Setting, Acts, Acted, is_open}
 use Rattle.session.specs.Sessions.{Obeys, Asks, OpensBy, Opens, Good, Asked, DayTrue, OpenMade, OpenMade_by, retired, retired_with}
 use Rattle.session.specs.Sides.{Day, Side, side, Standing}

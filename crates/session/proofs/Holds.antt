@@ -1,5 +1,5 @@
 -- The permit in a block's hand stays the block's through the calls that give none and take none.
-use Rattle.std.proofs.Common.{◌≡◌, ℕ, ◌+◌, Bool, true, false, List, [], ◌∷◌, Some, None, Ok, Err, Option, Result, sym, refl, ap, ◌∙◌, subst, inl, inr}
+use Rattle.std.proofs.Common.{◌≡◌, ℕ, ◌+◌, false, List, [], ◌∷◌, Some, None, Ok, Err, Option, Result, sym, ap, ◌∙◌, subst, inl, inr}
 use borrow.Author.Tests.{clash}
 use Rattle.symbols.specs.Kinds.{Kind}
 use Rattle.symbols.specs.Cells.{cell_kind}

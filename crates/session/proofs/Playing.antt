@@ -1,12 +1,12 @@
 -- A session call by call: one more call with its entry, and what is true at the end.
-use Rattle.std.proofs.Common.{◌≡◌, ℕ, min, Bool, false, List, [], ◌∷◌, ◌++◌, length, drop, replicate, is_some, None, sym, refl, ap, ◌∙◌, subst, append-nil, arith}
+use Rattle.std.proofs.Common.{◌≡◌, ℕ, min, false, List, [], ◌∷◌, ◌++◌, length, drop, replicate, is_some, None, sym, refl, ap, ◌∙◌, subst, append-nil, arith}
 use Rattle.std.proofs.lemmas.List.{drop_all}
 use Rattle.search.specs.Found.{wiped}
 use Rattle.receiver.specs.Blocks.{Block, opened}
 use Rattle.session.specs.Holding.{Holding}
 use Rattle.session.specs.Obeying.{Setting}
-use Rattle.session.specs.Sessions.{Now, On, Obeys, Plays, Good, Asked, Turned, TurnedBy, Going, Session, beginning}
-use Rattle.session.specs.Sides.{Side, side}
+use Rattle.session.specs.Sessions.{Now, On, Obeys, Plays, Good, Turned, TurnedBy, Going, Session, beginning}
+use Rattle.session.specs.Sides.{side}
 use Rattle.session.specs.declared.order.Call.{Call}
 use Rattle.session.specs.declared.order.Entry.{Entry}
 use Rattle.session.specs.declared.order.Which.{Which}

@@ -1,5 +1,5 @@
 -- Solving in a session: what the block's solve ensures, as a session tells it.
-use Rattle.std.proofs.Common.{◌≡◌, ℕ, Bool, true, false, ◌||◌, ltb, List, [], ◌∷◌, length, Some, None, Ok, Err, MatchBool, Option, Result, sym, refl, ap, ◌∙◌, subst, arith}
+use Rattle.std.proofs.Common.{◌≡◌, ℕ, true, false, ◌||◌, ltb, List, [], ◌∷◌, length, Some, None, Ok, Err, MatchBool, Option, Result, sym, refl, ap, ◌∙◌, subst, arith}
 use Rattle.symbols.specs.Kinds.{Kind}
 use Rattle.codes.specs.Matrix.{Matrix}
 use Rattle.method.specs.Method.{Outcome}
@@ -9,7 +9,6 @@ use Rattle.codes.specs.declared.refusal.Refusal.{Refusal}
 use Rattle.piles.specs.Piles.{pile_code, Done}
 use Rattle.piles.specs.declared.pile.Pile.{Pile}
 use Rattle.piles.specs.declared.policy.PolicyName.{PolicyName}
-use Rattle.receiver.specs.declared.block.Out.TheVariants.{Nothing, Full}
 use Rattle.receiver.specs.declared.fault.Fault.{Fault}
 use Rattle.receiver.specs.declared.fault.Unsolved.{Unsolved}
 use Rattle.receiver.specs.declared.permit.Permit.{Permit}

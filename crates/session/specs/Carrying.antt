@@ -6,7 +6,7 @@
 --   cell_packed, cell_ran what it does to take a packet, or a run of them, of cells
 --   packet_tells, run_tells    a history with the events of it after it
 --   cells, no_cells       the carriage of cells, and that of other symbols
-use Rattle.std.specs.Prelude.{◌≡◌, ℕ, List, [], ◌∷◌, Some, None, Option, Result}
+use Rattle.std.specs.Prelude.{◌≡◌, ℕ, List, ◌∷◌, Some, None, Option, Result}
 use Rattle.symbols.specs.declared.kinds.Cell.{Cell}
 use Rattle.receiver.specs.declared.run.Layer.{Layer}
 use Rattle.receiver.specs.declared.run.Stopped.{Stopped}

@@ -10,7 +10,7 @@
 --   Setting       what a session is held with: its symbols, its codes and its working memory
 --   Acts          what a call on an opened block makes of its side; an entry that does not belong to it contradicts it
 --   Acted         what making a call does: its entry belongs to it, and the promise over histories goes on
-use Rattle.std.specs.Prelude.{◌≡◌, ℕ, Bool, true, false, cond, ◌&&◌, ◌||◌, List, [], ◌∷◌, Some, None, Ok, Err, vec_items, MatchBool, Option, Result, ◌==◌, nat_lt}
+use Rattle.std.specs.Prelude.{◌≡◌, ℕ, Bool, true, false, ◌&&◌, ◌||◌, List, [], ◌∷◌, Some, None, Ok, Err, vec_items, MatchBool, Option, Result, ◌==◌, nat_lt}
 use Rattle.symbols.specs.Kinds.{Kind}
 use Rattle.codes.specs.Matrix.{Matrix}
 use Rattle.packets.specs.Figure.{percent}
@@ -21,8 +21,6 @@ use Rattle.receiver.specs.declared.fault.Fault.{Fault}
 use Rattle.receiver.specs.declared.fault.Fault.TheVariants.{NotItsPermit}
 use Rattle.receiver.specs.declared.fault.Unsolved.{Unsolved}
 use Rattle.receiver.specs.declared.permit.Permit.{Permit}
-use Rattle.receiver.specs.declared.run.Layer.{Layer}
-use Rattle.receiver.specs.declared.run.Stopped.{Stopped}
 use Rattle.receiver.specs.Calls.Call.{close}
 use Rattle.receiver.specs.History.{Event, Opened}
 use Rattle.receiver.specs.History.Event.{refused, closed}

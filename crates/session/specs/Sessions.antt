@@ -11,8 +11,7 @@
 --   Played        what a whole session answers
 --   emptied       memory after a session
 --   Good, Asked, Turned, Going, Cut, OpenMade    what the parts of a session do
-use Rattle.std.specs.Prelude.{◌≡◌, ℕ, ◌+◌, ◌<◌, ◌≤◌, Bool, true, false, List, [], ◌∷◌, ◌++◌, length, replicate, is_some, Some, None, Ok, Err, MatchBool, Option, Result, ◌≢◌, nat_lt}
-use Rattle.std.specs.Option.{ok_or}
+use Rattle.std.specs.Prelude.{◌≡◌, ℕ, ◌+◌, ◌<◌, Bool, true, false, List, [], ◌∷◌, length, replicate, is_some, Some, None, Ok, Err, MatchBool, Option, Result, ◌≢◌, nat_lt}
 use Rattle.std.specs.List.{AllByRecursion as All}
 use Rattle.symbols.specs.Kinds.{Kind}
 use Rattle.receiver.specs.declared.fault.Fault.{Fault}

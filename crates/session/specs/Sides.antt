@@ -9,7 +9,7 @@
 --   Solving       what a solve answers, the block after it, and the columns that its policy named
 --   solve_by      what a solve makes of a block, with the policy of a name
 --   Solved, PileSolved    a solve was made of a block, and the promise over histories goes on with it
-use Rattle.std.specs.Prelude.{◌≡◌, ℕ, Bool, true, false, cond, ◌&&◌, ◌||◌, eqb, ltb, List, [], ◌∷◌, length, Some, None, Ok, Err, Option, Result}
+use Rattle.std.specs.Prelude.{◌≡◌, ℕ, Bool, List, [], ◌∷◌, length, Some, None, Ok, Err, Option, Result}
 use Rattle.std.specs.List.{slice_get}
 use Rattle.symbols.specs.Kinds.{Kind}
 use Rattle.codes.specs.Matrix.{Matrix}
@@ -18,13 +18,11 @@ use Rattle.codes.specs.declared.refusal.Refusal.{Refusal}
 use Rattle.piles.specs.Piles.{pile_code}
 use Rattle.piles.specs.declared.pile.Pile.{Pile}
 use Rattle.piles.specs.declared.policy.PolicyName.{PolicyName}
-use Rattle.search.specs.declared.answer.Report.{Report}
-use Rattle.receiver.specs.declared.fault.Fault.{Fault}
 use Rattle.receiver.specs.declared.fault.Unsolved.{Unsolved}
 use Rattle.receiver.specs.declared.permit.Permit.{Permit}
 use Rattle.receiver.specs.Calls.{refusal}
 use Rattle.receiver.specs.Calls.Call.{solve}
-use Rattle.receiver.specs.History.{Event, Opened, Truths}
+use Rattle.receiver.specs.History.{Event, Opened}
 use Rattle.receiver.specs.Blocks.{Block, seen}
 use Rattle.receiver.specs.Solves.{search_of, named, solved_by, solve_event}
 use Rattle.receiver.specs.Stands.{Stands, GoesOn}

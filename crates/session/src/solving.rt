@@ -42,6 +42,11 @@ pub(crate) fn solve_pile<S: Symbol>(
 ) -> Result<Result<Permit, Unsolved>, Refusal>
     ensures { PileSolved S.Symbol.kind (pile_code pile.now) name (length words.old) (length sides.old) (model block.old) result (model block.new) }
 {
-    let mut task = SolveTask { block, name, words, sides };
+    let mut task = SolveTask {
+        block,
+        name,
+        words,
+        sides,
+    };
     with_code(pile, &mut task)
 }

@@ -1,5 +1,5 @@
 -- The laws of the pair, from those of its parts.
-use Rattle.std.specs.Prelude.{◌≡◌, true, ◌&&◌}
+use Rattle.std.specs.Prelude.{◌&&◌}
 use Rattle.std.proofs.Common.{ap, ap₂}
 use Rattle.std.proofs.lemmas.Bool.Decides.{Decides-and, Decides-like}
 use Rattle.symbols.specs.Kinds.{Kind, Laws}

@@ -1,7 +1,5 @@
-use Rattle.std.proofs.Common.{◌≡◌, [], length, Some, None, sym, refl, subst}
-use Rattle.receiver.specs.Blocks.{opened}
+use Rattle.std.proofs.Common.{[], length, Some, None, refl, subst}
 use Rattle.receiver.specs.Stands.{opening}
-use Rattle.receiver.specs.View.{model}
 use Rattle.days.specs.Days.{now_of, day_on, DayTrue}
 use Rattle.days.proofs.Opening.{no_refusal, refusal_told}
 use Rattle.days.proofs.day.day.Goals as goal

@@ -1,4 +1,4 @@
-use Rattle.std.proofs.Common.{Some, sym, refl, ap, ◌∙◌}
+use Rattle.std.proofs.Common.{Some, sym, ap, ◌∙◌}
 use Rattle.session.proofs.Acts.{no_other, not_handed, closed_other}
 use Rattle.session.proofs.acting.obey_close_other.Goals as goal
 

@@ -1,10 +1,7 @@
-use Rattle.std.proofs.Common.{length, Some, Ok, Err, sym, refl, ap, ◌∙◌, subst}
+use Rattle.std.proofs.Common.{length, Ok, Err, sym, refl, subst}
 use Rattle.receiver.specs.View.{model}
-use Rattle.session.specs.Obeying.{Acted, setting}
 use Rattle.piles.specs.Piles.{pile_code}
-use Rattle.session.specs.Sides.{memory_of, PileSolved}
-use Rattle.session.specs.declared.order.Order.TheVariants.{Solve}
-use Rattle.session.specs.declared.order.Entry.TheVariants.{Solved}
+use Rattle.session.specs.Sides.{PileSolved}
 use Rattle.session.proofs.Solves.{too_little, without_pile, free_for, solved_so, with_no_code}
 use Rattle.session.proofs.acting.obey_solve.Goals as goal
 

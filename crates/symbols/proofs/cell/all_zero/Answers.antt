@@ -1,4 +1,4 @@
-use Rattle.std.proofs.Common.{◌≡◌, ℕ, get_or, ap₂, arith, below_more}
+use Rattle.std.proofs.Common.{get_or, ap₂, arith, below_more}
 use lib.Bits.{bit_or, or_add_and, and_le_l, and_le_r}
 use Rattle.symbols.proofs.cell.all_zero.Goals as goal
 

@@ -1,4 +1,4 @@
-use Rattle.std.proofs.Common.{◌≡◌, ◌∙◌}
+use Rattle.std.proofs.Common.{◌∙◌}
 use Rattle.receiver.proofs.Zeroing.{all_missing}
 use Rattle.receiver.proofs.block.Block.begin.Goals as goal
 

@@ -1,4 +1,4 @@
-use Rattle.std.proofs.Common.{◌≡◌, true, false, length, get_or, take, set, sym, refl, ap, ◌∙◌, arith}
+use Rattle.std.proofs.Common.{false, get_or, set, sym, ap, ◌∙◌, arith}
 use Rattle.receiver.proofs.Zeroing.{missing_more, received_more}
 use Rattle.receiver.proofs.block.Block.clear_missing.Goals as goal
 use Rattle.receiver.proofs.block.Block.clear_missing.Goals.{then-not-self-i, else-not-self-i}

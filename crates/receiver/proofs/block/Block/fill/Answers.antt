@@ -1,4 +1,4 @@
-use Rattle.std.proofs.Common.{◌≡◌, true, false, length, get_or, take, set, sym, refl, ap, ◌∙◌, arith}
+use Rattle.std.proofs.Common.{false, get_or, set, sym, ap, ◌∙◌, arith}
 use Rattle.search.specs.Found.{symbol_at}
 use Rattle.receiver.proofs.Zeroing.{missing_more, received_more}
 use Rattle.receiver.proofs.block.Block.fill.Goals as goal

@@ -1,6 +1,5 @@
-use Rattle.std.proofs.Common.{◌≡◌, ap, ◌∙◌, subst}
+use Rattle.std.proofs.Common.{ap, ◌∙◌, subst}
 use Rattle.symbols.specs.Cells.{cell_of, cell_kind}
-use Rattle.receiver.specs.History.{Event}
 use Rattle.receiver.specs.History.Event.{received}
 use Rattle.receiver.specs.Steps.{Step}
 use Rattle.receiver.specs.View.{model}

@@ -1,4 +1,4 @@
-use Rattle.std.proofs.Common.{◌≡◌, ℕ, ◌+◌, ◌<◌, ◌≤◌, length, take, drop, Ok, Err, sym, refl, ap, ◌∙◌, subst, arith, length-drop, length-take}
+use Rattle.std.proofs.Common.{◌≡◌, ◌+◌, ◌<◌, length, drop, Ok, Err, sym, refl, ◌∙◌, subst, arith, length-drop, length-take}
 use Rattle.std.proofs.lemmas.List.{drop_all, drop-drop}
 use Rattle.receiver.specs.Runs.{PacketStep, packets_in, Runs}
 use Rattle.receiver.specs.View.{model}
