@@ -7,7 +7,7 @@
 --   Apart         pairwise different
 --   Row, Lawful   what every code keeps: its bounds, and each row different columns below the width
 use Rattle.std.specs.Prelude.{◌≡◌, ℕ, ◌<◌, ◌≤◌, Bool, false, ◌||◌, List, [], ◌∷◌, length, sum_by, Option, ◌==◌, slice_index_or}
-use Rattle.std.specs.List.{slice_get, AllByRecursion as All}
+use Rattle.std.specs.List.{slice_get, AllByRecursion}
 
 pub record Matrix : Type 0 where
   pub width : ℕ
@@ -40,7 +40,7 @@ Apart [] = Unit {0}
 Apart (x ∷ xs) = (member x xs ≡ false) × Apart xs
 
 pub record Row (n : ℕ) (row : List ℕ) : Type 0 where
-  pub within : All (λ c. c < n) row
+  pub within : AllByRecursion (λ c. c < n) row
   pub apart : Apart row
 
 pub record Lawful (k : Matrix) : Type 0 where
@@ -49,4 +49,4 @@ pub record Lawful (k : Matrix) : Type 0 where
   pub some_row : 1 ≤ height k
   pub few_rows : height k ≤ 256
   pub few_ones : ones k ≤ 4096
-  pub each : All (Row k.width) k.rows
+  pub each : AllByRecursion (Row k.width) k.rows

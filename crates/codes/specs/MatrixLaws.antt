@@ -4,7 +4,7 @@
 --   not_member    a column below all those listed is not listed
 use Rattle.std.specs.Prelude.{◌≡◌, ℕ, ◌<◌, ◌≤◌, false, List, [], ◌∷◌, ◌==◌, refl}
 use Rattle.std.proofs.Common.{sym, subst, ⊎_elim, arith}
-use Rattle.std.specs.List.{AllByRecursion as All}
+use Rattle.std.specs.List.{AllByRecursion}
 use Rattle.std.proofs.ByRecursion.{All-get_or}
 use Rattle.std.proofs.lemmas.List.{get_or_past}
 use Rattle.std.proofs.lemmas.Bool.{cases_lt, ne_eqb, or_from}
@@ -17,6 +17,6 @@ row_lawful k p r =
     (λ (h : height k ≤ r). let P : List ℕ → Type 0 = Row k.width in subst P (sym (get_or_past k.rows r [] h)) (record { within = tt; apart = tt }))
     (cases_lt r (height k))
 
-pub not_member : (x : ℕ) (xs : List ℕ) → All (λ c. x < c) xs → member x xs ≡ false
+pub not_member : (x : ℕ) (xs : List ℕ) → AllByRecursion (λ c. x < c) xs → member x xs ≡ false
 not_member x [] h = refl
 not_member x (c ∷ cs) h = or_from (c == x) (member x cs) (ne_eqb c x (λ e. omega (arith, h.0))) (not_member x cs h.1)

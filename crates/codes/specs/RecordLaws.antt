@@ -9,7 +9,7 @@
 --   listed_rising, listed_ones, listed_lawful    of a listed code: its records rise, how many ones it has, and that it is lawful
 use Rattle.std.specs.Prelude.{◌≡◌, ℕ, zero, suc, ◌+◌, ◌*◌, ◌<◌, ◌≤◌, Bool, true, false, cond, ◌&&◌, ltb, List, [], ◌∷◌, map, length, is_some, Some, None, filter, Option, ◌==◌, nat_eq, nat_le, nat_lt, refl}
 use Rattle.std.proofs.Common.{◌∙◌, ⊎_elim, arith}
-use Rattle.std.specs.List.{AllByRecursion as All}
+use Rattle.std.specs.List.{AllByRecursion}
 use Rattle.std.proofs.ByRecursion.{All-weaker}
 use Rattle.std.proofs.lemmas.Bool.{and_parts, or_cases, ltb-true, leb-true, eqb-true, true≢false}
 use Rattle.codes.specs.declared.record.Record.{Record}
@@ -83,18 +83,18 @@ by_row : (P : List ℕ → Type 0) (k : Record) (ks : List Record) (r : ℕ) →
 by_row P k ks r y n = by_test P (k.row == r) k (filter (λ k. nat_eq k.row r) ks) (λ e. y (eqb-true _ _ e)) n
 
 -- they are in range, and at least what `low` leaves
-row_columns : (m n low r : ℕ) (rs : List Record) → Rising m n low rs → All (λ c. (c < n) × (low ≤ r * 512 + c)) (columns_of rs r)
+row_columns : (m n low r : ℕ) (rs : List Record) → Rising m n low rs → AllByRecursion (λ c. (c < n) × (low ≤ r * 512 + c)) (columns_of rs r)
 row_columns m n low r [] h = tt
 row_columns m n low r (k ∷ ks) h =
-    let rest : All (λ c. (c < n) × (low ≤ r * 512 + c)) (columns_of ks r) =
+    let rest : AllByRecursion (λ c. (c < n) × (low ≤ r * 512 + c)) (columns_of ks r) =
     All-weaker (λ c. (c < n) × (rank k + 1 ≤ r * 512 + c)) (λ c. (c < n) × (low ≤ r * 512 + c)) (λ c p. (p.0, omega arith)) (columns_of ks r) (row_columns m n (rank k + 1) r ks h.3) in
-    by_row (All (λ c. (c < n) × (low ≤ r * 512 + c))) k ks r (λ same. ((h.1, omega arith), rest)) rest
+    by_row (AllByRecursion (λ c. (c < n) × (low ≤ r * 512 + c))) k ks r (λ same. ((h.1, omega arith), rest)) rest
 
 row_apart : (m n low r : ℕ) (rs : List Record) → Rising m n low rs → Apart (columns_of rs r)
 row_apart m n low r [] h = tt
 row_apart m n low r (k ∷ ks) h =
     let rest : Apart (columns_of ks r) = row_apart m n (rank k + 1) r ks h.3 in
-    let above : k.row ≡ r → All (λ c. k.column < c) (columns_of ks r) =
+    let above : k.row ≡ r → AllByRecursion (λ c. k.column < c) (columns_of ks r) =
     λ same. All-weaker (λ c. (c < n) × (rank k + 1 ≤ r * 512 + c)) (λ c. k.column < c) (λ c p. omega arith) (columns_of ks r) (row_columns m n (rank k + 1) r ks h.3) in
     by_row Apart k ks r (λ same. (not_member k.column (columns_of ks r) (above same), rest)) rest
 

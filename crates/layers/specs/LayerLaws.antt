@@ -8,7 +8,7 @@
 use Rattle.std.specs.Prelude.{◌≡◌, ℕ, zero, suc, ◌+◌, ◌*◌, ◌/◌, ◌%◌, ◌<◌, ◌≤◌, true, ◌&&◌, ◌||◌, List, [], ◌∷◌, ◌++◌, map, length, sum_by, ◌==◌, nat_eq, nat_le, refl}
 use Rattle.std.proofs.Common.{sym, ap, subst, ◌∙◌, ⊎_elim, arith, add_comm, mul_comm, zero-mul}
 use Rattle.std.proofs.Math.Arith.{digits_lt}
-use Rattle.std.specs.List.{AllByRecursion as All}
+use Rattle.std.specs.List.{AllByRecursion}
 use Rattle.std.proofs.lemmas.Nat.{div-add-mod', div-mul-add, mod-mul-add, div_below, mod_below}
 use Rattle.std.proofs.ByRecursion.{All-append, All-map, All-weaker}
 use Rattle.std.proofs.lemmas.List.{length-map, length-append}
@@ -126,7 +126,7 @@ both_lawful k l p q f =
     let s = stack_parts k l f in
     let tall : length (k.rows ++ l.rows) ≡ height k + height l = length-append k.rows l.rows in
     let many : sum_by length (k.rows ++ l.rows) ≡ ones k + ones l = sum_by-append length k.rows l.rows in
-    let P : ℕ → Type 0 = λ n. All (Row n) l.rows in
+    let P : ℕ → Type 0 = λ n. AllByRecursion (Row n) l.rows in
     record {
       some_column = p.some_column;
       few_columns = p.few_columns;

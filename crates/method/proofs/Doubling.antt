@@ -2,7 +2,7 @@
 use Rattle.std.proofs.Common.{◌≡◌, ℕ, ◌^◌, Bool, true, false, cond, ◌||◌, eqb, ◌≢◌, ◌⊎◌, List, [], ◌∷◌, ◌++◌, map, length, Some, None, Option, sym, refl, ap, ◌∙◌, subst, inl, inr, arith, length-append}
 use native.Mathlib.Nat.{two-pow-succ}
 use lib.ListN.{length-map}
-use Rattle.std.specs.List.{ContainsAt as Has, AllByRecursion as All}
+use Rattle.std.specs.List.{ContainsAt as Has, AllByRecursion}
 use Rattle.std.proofs.ByRecursion.{All-append, All-map, All-weaker, all-has, has_append_left, has_append_right}
 use Rattle.std.proofs.lemmas.Bool.{true≢false, or_parts, or_right, or_cases, eqb-true, eq-eqb, ne_eqb}
 use Rattle.symbols.specs.Kinds.{Kind, Laws}
@@ -36,7 +36,7 @@ module _ {S : Type 0} (K : Kind S) where
   abbrev Off : List ℕ → (ℕ → S) → Type 0
   Off fs y = (c : ℕ) → member c fs ≡ false → y c ≡ K.zero
 
-  valuations_off : (fs : List ℕ) → All (Off fs) (valuations fs)
+  valuations_off : (fs : List ℕ) → AllByRecursion (Off fs) (valuations fs)
   valuations_off [] = (λ c h. refl, tt)
   valuations_off (f ∷ fs) =
       let ih = valuations_off fs in
@@ -73,7 +73,7 @@ module _ {S : Type 0} (K : Kind S) where
           or_right (eqb f p.0) (member p.0 fs) p.1,
           λ e. p.2 (sym (with_unit_off f fs a.0 y p.0 p.1) ∙ e ∙ with_unit_off f fs a.0 z p.0 p.1),
         )) vs ih)
-        (All-weaker (Off fs) (λ y. All (Parted (f ∷ fs) y) (map (with_unit f) vs))
+        (All-weaker (Off fs) (λ y. AllByRecursion (Parted (f ∷ fs) y) (map (with_unit f) vs))
         (λ y h. All-map (Parted (f ∷ fs) y) (with_unit f) vs (All-weaker (Off fs) (λ z. Parted (f ∷ fs) y (with_unit f z))
         (λ z _. (f, ap (λ b. b || member f fs) (eq-eqb f f refl), λ e. L.distinct (sym (with_unit_at f z) ∙ sym e ∙ h f a.0))) vs off)) vs off)
 
@@ -103,7 +103,7 @@ module _ {S : Type 0} (K : Kind S) where
             at_c c (inr h) = t.2 c h ∙ sym (with_unit_off f fs a.0 t.0 c h)
 
 module _ {S P : Type 0} {K : Kind S} (L : Laws K) {k : Matrix} {got : List Bool} {syms : List S} {s : State S P} (d : Search K k got syms s) where
-  off_used : All (Off_used K s.rows) (valuations K s.free)
+  off_used : AllByRecursion (Off_used K s.rows) (valuations K s.free)
   off_used =
       All-weaker (Off K s.free) (Off_used K s.rows)
       (λ y h c u. h c (member_none c s.free (omega (arith, u, shares_le d.ended c)))) (valuations K s.free) (valuations_off K s.free)
@@ -130,7 +130,7 @@ module _ {S P : Type 0} {K : Kind S} (L : Laws K) {k : Matrix} {got : List Bool}
           let o = occ_some p.0 s.free p.1 in
           p.2 (sym (filling_free L d y p.0 o) ∙ ap (λ w. at K w p.0) e ∙ filling_free L d z p.0 o)
 
-      agree : All (Agreeing K k got syms) (map of vs)
+      agree : AllByRecursion (Agreeing K k got syms) (map of vs)
       agree = All-map (Agreeing K k got syms) of vs (All-weaker (Off_used K s.rows) (λ y. Agreeing K k got syms (of y)) (filling_agrees L d clean) vs off_used)
 
       in_list : (w : List S) → Agreeing K k got syms w → Has (map of vs) w

@@ -1,13 +1,13 @@
 -- Lists of different elements, and that two lists of all that have a property are equally long.
 use Rattle.std.proofs.Common.{◌≡◌, ℕ, suc, ◌+◌, ◌-◌, ◌<◌, ◌≤◌, ◌≢◌, ◌⊎◌, List, [], ◌∷◌, ◌++◌, map, length, get_or, sym, refl, ap, ◌∙◌, inl, inr, arith}
-use Rattle.std.specs.List.{ContainsAt as Has, remove, AllByRecursion as All}
+use Rattle.std.specs.List.{ContainsAt as Has, remove, AllByRecursion}
 use Rattle.std.proofs.lemmas.List.{get_or-map, length-map}
 use Rattle.std.proofs.ByRecursion.{All-append, All-map, All-weaker, all-has}
 use Rattle.std.proofs.lemmas.List.Edits.{length-remove, get_or-remove_below, get_or-remove_above}
 use Rattle.std.proofs.lemmas.Bool.{cases_order}
 use Rattle.method.specs.Fillings.{Pairwise, Different, Listing}
 
-pub pairwise_append : {A : Type 0} (R : A → A → Type 0) (xs ys : List A) → Pairwise R xs → Pairwise R ys → All (λ x. All (R x) ys) xs → Pairwise R (xs ++ ys)
+pub pairwise_append : {A : Type 0} (R : A → A → Type 0) (xs ys : List A) → Pairwise R xs → Pairwise R ys → AllByRecursion (λ x. AllByRecursion (R x) ys) xs → Pairwise R (xs ++ ys)
 pairwise_append R [] ys p q h = q
 pairwise_append R (x ∷ xs) ys p q h = (All-append (R x) xs ys p.0 h.0, pairwise_append R xs ys p.1 q h.1)
 

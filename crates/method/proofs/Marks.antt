@@ -1,7 +1,7 @@
 -- Sets as marks: what is in them.
 use Rattle.std.proofs.Common.{◌≡◌, ℕ, zero, suc, ◌<◌, ◌≤◌, Bool, true, false, not, ◌&&◌, ◌||◌, eqb, ◌≢◌, ◌⊎◌, List, [], ◌∷◌, length, get_or, set, Some, None, Option, sym, refl, ap, ◌∙◌, inl, inr, ⊎_elim, arith, get_or-set_other, get_or-set_same}
 use mathlib.Core.Bool.{and-false}
-use Rattle.std.specs.List.{AllByRecursion as All}
+use Rattle.std.specs.List.{AllByRecursion}
 use Rattle.std.proofs.lemmas.List.{get_or_past}
 use Rattle.std.proofs.lemmas.Bool.{false≢true, both_ways, not-true, cases_eq, cases_lt, and_right, eqb-true, ne_eqb}
 use Rattle.codes.specs.Matrix.{member, Apart}
@@ -112,11 +112,11 @@ member_marked s (x ∷ xs) c = go (has s x) refl (eqb x c) refl (member_marked s
         ih ∙ and_right (member c xs) (has s c) no ∙ sym no
     go false e false q ih = ih
 
-pub marked_all : (P : ℕ → Type 0) (s : List Bool) (xs : List ℕ) → All P xs → All P (marked s xs)
+pub marked_all : (P : ℕ → Type 0) (s : List Bool) (xs : List ℕ) → AllByRecursion P xs → AllByRecursion P (marked s xs)
 marked_all P s [] h = tt
 marked_all P s (x ∷ xs) h = go (has s x) (marked_all P s xs h.1)
   where
-    go : (b : Bool) → All P (marked s xs) → All P (kept_if b x (marked s xs))
+    go : (b : Bool) → AllByRecursion P (marked s xs) → AllByRecursion P (kept_if b x (marked s xs))
     go true ih = (h.0, ih)
     go false ih = ih
 

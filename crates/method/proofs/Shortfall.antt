@@ -1,7 +1,7 @@
 -- The shortfall goes by the code and the missing places alone, and no answer by the policy.
 use Rattle.std.proofs.Common.{◌≡◌, ℕ, zero, suc, ◌^◌, ◌<◌, ◌≤◌, Bool, true, false, not, ◌⊎◌, List, [], ◌∷◌, length, get_or, Some, None, Option, sym, refl, ap, ◌∙◌, inl, inr, arith}
 use native.Mathlib.Nat.{two-pow-succ, one-le-pow, pow-le-pow_right}
-use Rattle.std.specs.List.{AllByRecursion as All}
+use Rattle.std.specs.List.{AllByRecursion}
 use Rattle.std.proofs.lemmas.Bool.{true≢false, false≢true, not-true, not_from_false, cases_lt, cases_Bool}
 use Rattle.symbols.specs.Kinds.{Kind, Laws}
 use Rattle.codes.specs.Matrix.{Matrix, Lawful}
@@ -59,7 +59,7 @@ zero_sum : (n : ℕ) (row : List ℕ) → sum_of bit (table n (λ _. false)) row
 zero_sum n [] = refl
 zero_sum n (c ∷ cs) = ap (λ x. differs x (sum_of bit (table n (λ _. false)) cs)) (zero_at n c) ∙ zero_sum n cs
 
-zero_sums : (n : ℕ) (rows : List (List ℕ)) → All (λ row. sum_of bit (table n (λ _. false)) row ≡ false) rows
+zero_sums : (n : ℕ) (rows : List (List ℕ)) → AllByRecursion (λ row. sum_of bit (table n (λ _. false)) row ≡ false) rows
 zero_sums n [] = tt
 zero_sums n (row ∷ rows) = (zero_sum n row, zero_sums n rows)
 

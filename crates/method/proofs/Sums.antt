@@ -1,6 +1,6 @@
 -- Sums of symbols over sets of places and over listed places.
 use Rattle.std.proofs.Common.{◌≡◌, ℕ, zero, suc, ◌<◌, Bool, true, false, not, ◌||◌, List, [], ◌∷◌, length, get_or, set, sym, refl, ap, ◌∙◌, ap₂}
-use Rattle.std.specs.List.{AllByRecursion as All}
+use Rattle.std.specs.List.{AllByRecursion}
 use Rattle.std.proofs.lemmas.Bool.{true≢false, false≢true, eq-eqb}
 use Rattle.symbols.specs.Kinds.{Kind, Laws}
 use Rattle.symbols.specs.Sums.{sum_at}
@@ -100,7 +100,7 @@ module _ {S : Type 0} {K : Kind S} (L : Laws K) where
       ∙ sym (sum_one (marks n (c ∷ cs)) c (at K w) hc)
 
   -- the sum at listed places is that at the missing ones and that at the received ones
-  pub total_split : (got : List Bool) (w : List S) (row : List ℕ) → All (λ c. c < length got) row
+  pub total_split : (got : List Bool) (w : List S) (row : List ℕ) → AllByRecursion (λ c. c < length got) row
       → sum_of K w row ≡ K.sum (sum_of K w (marked (missing got) row)) (sum_of K w (marked got row))
   total_split got w [] h = sym (L.sums.identity K.zero)
   total_split got w (c ∷ cs) h = go (has got c) (has (missing got) c) (has_missing got c h.0) (total_split got w cs h.1)

@@ -8,7 +8,7 @@
 --   Different     no two elements of a list are equal: Pairwise so
 --   Listing       so many have it: the elements of a list of that length, no two of them equal
 use Rattle.std.specs.Prelude.{◌≡◌, ℕ, Bool, true, false, ◌≢◌, ◌↔◌, List, [], ◌∷◌, length, slice_index_or}
-use Rattle.std.specs.List.{ContainsAt as Has, AllByRecursion as All}
+use Rattle.std.specs.List.{ContainsAt as Has, AllByRecursion}
 use Rattle.symbols.specs.Kinds.{Kind}
 use Rattle.codes.specs.Matrix.{Matrix}
 use Rattle.codes.specs.Codewords.{Codeword}
@@ -64,7 +64,7 @@ uncounted (several p a f) = several 0 0 f
 
 abbrev pub Pairwise : {A : Type 0} → (A → A → Type 0) → List A → Type 0
 Pairwise R [] = Unit {0}
-Pairwise R (x ∷ xs) = All (R x) xs × Pairwise R xs
+Pairwise R (x ∷ xs) = AllByRecursion (R x) xs × Pairwise R xs
 
 abbrev pub Different : {A : Type 0} → List A → Type 0
 Different xs = Pairwise (λ x y. x ≢ y) xs

@@ -1,6 +1,6 @@
 -- Labels and components: columns have one label exactly where edges join them.
 use Rattle.std.proofs.Common.{◌≡◌, ℕ, ◌<◌, ◌≤◌, min, max, Bool, true, ◌⊎◌, List, [], ◌∷◌, length, sym, refl, ap, ◌∙◌, subst, inl, inr, ⊎_elim, arith}
-use Rattle.std.specs.List.{AllByRecursion as All}
+use Rattle.std.specs.List.{AllByRecursion}
 use Rattle.std.proofs.ByRecursion.{All-weaker}
 use Rattle.std.proofs.lemmas.Bool.{cases_lt, cases_eq}
 use Rattle.codes.specs.Matrix.{Matrix}
@@ -60,7 +60,7 @@ module _ (k : Matrix) (a u : List Bool) where
 
   -- the labels that pairs give, all of them edges
   abbrev Links : List (ℕ × ℕ) → Type 0
-  Links es = All (λ e. Linked k a u e.0 e.1) es
+  Links es = AllByRecursion (λ e. Linked k a u e.0 e.1) es
 
   more : (e : ℕ × ℕ) (es : List (ℕ × ℕ)) → Linked k a u e.0 e.1 → (c : ℕ)
       → label (labels (length a) (e ∷ es)) c ≡ joined (label (labels (length a) es)) e.0 e.1 c
@@ -80,7 +80,7 @@ module _ (k : Matrix) (a u : List Bool) where
       go (inr (inr q)) ih = through c p.1 d (ih c p.1 q.0) (link p.1 p.0 d (flipped p.0 p.1 h.0) (ih p.0 d (sym q.1)))
 
   -- the columns of a pair have one label
-  pub pair_labels : (es : List (ℕ × ℕ)) → Links es → All (λ e. label (labels (length a) es) e.0 ≡ label (labels (length a) es) e.1) es
+  pub pair_labels : (es : List (ℕ × ℕ)) → Links es → AllByRecursion (λ e. label (labels (length a) es) e.0 ≡ label (labels (length a) es) e.1) es
   pair_labels [] h = tt
   pair_labels (p ∷ es) h = (
     more p es h.0 p.0 ∙ merged_both (g p.0) (g p.1) ∙ sym (more p es h.0 p.1),

@@ -1,6 +1,6 @@
 -- The pairs that rows give are the edges.
 use Rattle.std.proofs.Common.{◌≡◌, ℕ, zero, suc, ◌<◌, ◌≤◌, Bool, true, false, ◌||◌, eqb, ◌≢◌, ◌⊎◌, List, [], ◌∷◌, Some, None, Option, sym, refl, ap, ◌∙◌, subst, inl, inr, ⊎_elim, arith}
-use Rattle.std.specs.List.{AllByRecursion as All}
+use Rattle.std.specs.List.{AllByRecursion}
 use Rattle.std.proofs.lemmas.List.{get_or_past}
 use Rattle.std.proofs.lemmas.Bool.{cases_lt, cases_eq, both_ways, eq-eqb, eqb-true, and_parts, and_from, or_cases, or_left, or_right, false≢true}
 use Rattle.codes.specs.Matrix.{Matrix, Lawful, Apart, row_at, height, member}
@@ -95,24 +95,24 @@ module _ (k : Matrix) (ok : Lawful k) (a u : List Bool) where
         no_third = λ z h i. one_of_two x y z (subst (λ xs. member z xs ≡ true) is (marked_to a (row_at k r) z h i));
       }
 
-  pub joins_linked : (n : ℕ) → All (λ e. Linked k a u e.0 e.1) (joins k a u n)
+  pub joins_linked : (n : ℕ) → AllByRecursion (λ e. Linked k a u e.0 e.1) (joins k a u n)
   joins_linked zero = tt
   joins_linked (suc r) = go (has u r) refl (pair_of (marked a (row_at k r))) refl (joins_linked r)
     where
       go : (b : Bool) → has u r ≡ b → (o : Option (ℕ × ℕ)) → o ≡ pair_of (marked a (row_at k r))
-          → All (λ e. Linked k a u e.0 e.1) (joins k a u r) → All (λ e. Linked k a u e.0 e.1) (with_pair b o (joins k a u r))
+          → AllByRecursion (λ e. Linked k a u e.0 e.1) (joins k a u r) → AllByRecursion (λ e. Linked k a u e.0 e.1) (with_pair b o (joins k a u r))
       go false e o f h = h
       go true e None f h = h
       go true e (Some p) f h = (pair_linked r p.0 p.1 e f, h)
 
   -- what holds of each pair holds of each edge, one way or the other
   module _ (P : ℕ × ℕ → Type 0) where
-    row_pair : (r : ℕ) (e : ℕ × ℕ) → has u r ≡ true → Some e ≡ pair_of (marked a (row_at k r)) → (n : ℕ) → r < n → All P (joins k a u n) → P e
+    row_pair : (r : ℕ) (e : ℕ × ℕ) → has u r ≡ true → Some e ≡ pair_of (marked a (row_at k r)) → (n : ℕ) → r < n → AllByRecursion P (joins k a u n) → P e
     row_pair r e free q zero l h = absurd (omega arith)
     row_pair r e free q (suc n) l h = go (cases_eq r n) (has u n) refl (pair_of (marked a (row_at k n))) refl h (row_pair r e free q n)
       where
-        go : (r ≡ n) ⊎ (r ≡ n → ⊥) → (b : Bool) → has u n ≡ b → (o : Option (ℕ × ℕ)) → o ≡ pair_of (marked a (row_at k n)) → All P (with_pair b o (joins k a u n))
-            → (r < n → All P (joins k a u n) → P e) → P e
+        go : (r ≡ n) ⊎ (r ≡ n → ⊥) → (b : Bool) → has u n ≡ b → (o : Option (ℕ × ℕ)) → o ≡ pair_of (marked a (row_at k n)) → AllByRecursion P (with_pair b o (joins k a u n))
+            → (r < n → AllByRecursion P (joins k a u n) → P e) → P e
         go (inl s) false f o w h ih = absurd (both_ways (has u n) f (ap (has u) (sym s) ∙ free))
         go (inl s) true f None w h ih = absurd (some_none e (q ∙ ap (λ z. pair_of (marked a (row_at k z))) s ∙ sym w))
         go (inl s) true f (Some d) w h ih =
@@ -122,7 +122,7 @@ module _ (k : Matrix) (ok : Lawful k) (a u : List Bool) where
         go (inr s) true f None w h ih = ih (omega arith) h
         go (inr s) true f (Some d) w h ih = ih (omega arith) h.1
 
-    pub edge_pair : All P (joins k a u (height k)) → (x y : ℕ) → Linked k a u x y → P (x, y) ⊎ P (y, x)
+    pub edge_pair : AllByRecursion P (joins k a u (height k)) → (x y : ℕ) → Linked k a u x y → P (x, y) ⊎ P (y, x)
     edge_pair h x y w =
         ⊎_elim (λ (e : Some (x, y) ≡ pair_of (marked a (row_at k w.row))). inl (row_pair w.row (x, y) w.unused e (height k) inside h))
         (λ (e : Some (y, x) ≡ pair_of (marked a (row_at k w.row))). inr (row_pair w.row (y, x) w.unused e (height k) inside h))

@@ -1,7 +1,7 @@
 -- The labels that pairs give to columns, and the pairs that rows give.
 use Rattle.std.proofs.Common.{◌≡◌, ℕ, ◌+◌, ◌<◌, ◌≤◌, min, max, Bool, true, false, ◌≢◌, List, [], ◌∷◌, map, length, Some, None, Option, sym, refl, ap, ◌∙◌, subst, ⊎_elim, add-one, arith}
 use lib.ListN.{length-map}
-use Rattle.std.specs.List.{range_with_len, AllByRecursion as All}
+use Rattle.std.specs.List.{range_with_len, AllByRecursion}
 use Rattle.std.proofs.lemmas.List.FromFn.{length-range_with_len, get_or-range_with_len}
 use Rattle.std.proofs.lemmas.List.{get_or_past, get_or-map}
 use Rattle.std.proofs.lemmas.Bool.{cases_lt, cases_eq}
@@ -60,15 +60,15 @@ forest_like : (up : List ℕ) (f g : ℕ → ℕ) → ((c : ℕ) → g c ≡ f c
 forest_like up f g e h = record { falling = h.falling; keeps = λ c l. e (at up c) ∙ h.keeps c l ∙ sym (e c); root = λ c l o. e c ∙ h.root c l o }
 
 -- the columns of a pair are active
-marked_active : (a : List Bool) (row : List ℕ) → All (λ c. has a c ≡ true) (marked a row)
+marked_active : (a : List Bool) (row : List ℕ) → AllByRecursion (λ c. has a c ≡ true) (marked a row)
 marked_active a [] = tt
 marked_active a (c ∷ cs) = go (has a c) refl (marked_active a cs)
   where
-    go : (b : Bool) → has a c ≡ b → All (λ c. has a c ≡ true) (marked a cs) → All (λ c. has a c ≡ true) (kept_if b c (marked a cs))
+    go : (b : Bool) → has a c ≡ b → AllByRecursion (λ c. has a c ≡ true) (marked a cs) → AllByRecursion (λ c. has a c ≡ true) (kept_if b c (marked a cs))
     go true e ih = (e, ih)
     go false e ih = ih
 
-pair_all : (P : ℕ → Type 0) (xs : List ℕ) (x y : ℕ) → Some (x, y) ≡ pair_of xs → All P xs → P x × P y
+pair_all : (P : ℕ → Type 0) (xs : List ℕ) (x y : ℕ) → Some (x, y) ≡ pair_of xs → AllByRecursion P xs → P x × P y
 pair_all P [] x y e h = absurd (some_none _ e)
 pair_all P (p ∷ []) x y e h = absurd (some_none _ e)
 pair_all P (p ∷ (q ∷ [])) x y e h =

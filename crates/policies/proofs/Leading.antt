@@ -1,6 +1,6 @@
 -- What the policies name is heavy, and leads a component.
 use Rattle.std.proofs.Common.{◌≡◌, ℕ, zero, suc, ◌<◌, ◌≤◌, Bool, true, false, eqb, ◌⊎◌, List, [], ◌∷◌, length, Some, None, Option, sym, refl, ap, ◌∙◌, inl, inr, ⊎_elim, arith}
-use Rattle.std.specs.List.{AllByRecursion as All}
+use Rattle.std.specs.List.{AllByRecursion}
 use Rattle.std.proofs.lemmas.Bool.{cases_lt, cases_eq, both_ways, eq-eqb, eqb-true, and_parts, and_from}
 use Rattle.codes.specs.Matrix.{Matrix, Lawful, height}
 use Rattle.method.specs.Sets.{has, bump}
@@ -50,7 +50,7 @@ count_some t (suc n) l = go (t n) refl l (count_some t n)
     go false e l ih = ih l
 
 -- the best column by the sizes of labels leads a component, where the pairs are the edges
-module _ (k : Matrix) (a u : List Bool) (es : List (ℕ × ℕ)) (h : All (λ e. Linked k a u e.0 e.1) es)
+module _ (k : Matrix) (a u : List Bool) (es : List (ℕ × ℕ)) (h : AllByRecursion (λ e. Linked k a u e.0 e.1) es)
     (edges : (x y : ℕ) → Linked k a u x y → label (labels (length a) es) x ≡ label (labels (length a) es) y)
     (c x : ℕ) (hx : has a x ≡ true) (b : Best (size_of a (label (labels (length a) es))) a (length a) c) where
   abbrev f : ℕ → ℕ
@@ -127,7 +127,7 @@ module _ (k : Matrix) (a u : List Bool) (es : List (ℕ × ℕ)) (h : All (λ e.
 largest_leads : (k : Matrix) → Lawful k → (a u : List Bool) (x y : ℕ) → Linked k a u x y → (c : ℕ) × (largest k a u ≡ Some c) × Leads k a u c
 largest_leads k ok a u x y w = go (joins k a u (height k)) (joins_linked k ok a u (height k)) (λ P. edge_pair k ok a u P)
   where
-    go : (es : List (ℕ × ℕ)) → All (λ e. Linked k a u e.0 e.1) es → ((P : ℕ × ℕ → Type 0) → All P es → (x y : ℕ) → Linked k a u x y → P (x, y) ⊎ P (y, x))
+    go : (es : List (ℕ × ℕ)) → AllByRecursion (λ e. Linked k a u e.0 e.1) es → ((P : ℕ × ℕ → Type 0) → AllByRecursion P es → (x y : ℕ) → Linked k a u x y → P (x, y) ⊎ P (y, x))
         → (c : ℕ) × (largest_of a es ≡ Some c) × Leads k a u c
     go [] h each = ⊎_elim (λ (i : ⊥). absurd i) (λ (i : ⊥). absurd i) (each (λ e. ⊥) tt x y w)
     go (e ∷ es) h each = pick (top s a) refl (top_names s a)
@@ -150,7 +150,7 @@ largest_leads k ok a u x y w = go (joins k a u (height k)) (joins_linked k ok a 
 largest_none : (k : Matrix) → Lawful k → (a u : List Bool) → ((x y : ℕ) → Linked k a u x y → ⊥) → largest k a u ≡ None
 largest_none k ok a u n = go (joins k a u (height k)) (joins_linked k ok a u (height k))
   where
-    go : (es : List (ℕ × ℕ)) → All (λ e. Linked k a u e.0 e.1) es → largest_of a es ≡ None
+    go : (es : List (ℕ × ℕ)) → AllByRecursion (λ e. Linked k a u e.0 e.1) es → largest_of a es ≡ None
     go [] h = refl
     go (e ∷ es) h = absurd (n e.0 e.1 h.0)
 

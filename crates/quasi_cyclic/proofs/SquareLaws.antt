@@ -1,6 +1,6 @@
 -- The columns of a row, square by square.
 use Rattle.std.proofs.Common.{◌≡◌, ℕ, suc, ◌+◌, ◌-◌, ◌*◌, ◌/◌, ◌%◌, ◌<◌, ◌≤◌, Bool, false, eqb, List, [], ◌∷◌, ◌++◌, length, get_or, drop, ℤ, negsuc, Some, None, filter, Option, sym, refl, ap, ◌∙◌, ⊎_elim, add-mul, one-mul, arith}
-use Rattle.std.specs.List.{AllByRecursion as All}
+use Rattle.std.specs.List.{AllByRecursion}
 use Rattle.std.proofs.lemmas.Nat.{div-mul-add, mod_below, le-div, div_below}
 use Rattle.std.proofs.ByRecursion.{All-weaker}
 use Rattle.std.proofs.lemmas.List.{append-nil, length-take, length-drop, get_or-take, get_or-drop}
@@ -10,7 +10,7 @@ use Rattle.quasi_cyclic.specs.Entries.{shift_of, turned, square_row, line_row, l
 use Rattle.quasi_cyclic.specs.EntryLaws.{Sizes, whole_line, line_columns}
 use Rattle.quasi_cyclic.specs.SquareRows.{entry_at, columns_in, OneToASquare}
 
-kept_none : (p : ℕ → Bool) (xs : List ℕ) → All (λ c. p c ≡ false) xs → filter p xs ≡ []
+kept_none : (p : ℕ → Bool) (xs : List ℕ) → AllByRecursion (λ c. p c ≡ false) xs → filter p xs ≡ []
 kept_none p [] h = refl
 kept_none p (x ∷ xs) h = cond-false _ _ _ h.0 ∙ kept_none p xs h.1
 

@@ -6,7 +6,7 @@
 --   circulant_ones, circulant_lawful    the ones of a quasi_cyclic code, and that it is lawful
 use Rattle.std.specs.Prelude.{◌≡◌, ℕ, zero, suc, ◌+◌, ◌*◌, ◌/◌, ◌%◌, ◌<◌, ◌≤◌, true, ◌&&◌, List, [], ◌∷◌, ◌++◌, length, take, drop, ℤ, pos, Some, None, Option, ◌==◌, nat_le, slice_index_or, refl}
 use Rattle.std.proofs.Common.{sym, ap, ◌∙◌, arith, zero-mul, suc-mul, mul_comm, mul-le-mul_right}
-use Rattle.std.specs.List.{AllByRecursion as All}
+use Rattle.std.specs.List.{AllByRecursion}
 use Rattle.std.proofs.lemmas.Nat.{div-mul-add, mod_below}
 use Rattle.std.proofs.ByRecursion.{All-weaker}
 use Rattle.std.proofs.lemmas.List.{length-take, length-drop, get_or-take, get_or-drop}
@@ -49,12 +49,12 @@ line_length z r s [] = refl
 line_length z r s (e ∷ es) = square_length z r s (shift_of e) (line_row z r (s + z) es) ∙ ap (λ v. filled (shift_of e) + v) (line_length z r (s + z) es) ∙ sym (sum_by-cons (λ e. filled (shift_of e)) e es)
 
 -- the columns of a line lie within its squares
-pub line_columns : (z r s : ℕ) (es : List ℤ) → 1 ≤ z → All (λ c. (s ≤ c) × (c < s + length es * z)) (line_row z r s es)
+pub line_columns : (z r s : ℕ) (es : List ℤ) → 1 ≤ z → AllByRecursion (λ c. (s ≤ c) × (c < s + length es * z)) (line_row z r s es)
 line_columns z r s [] pz = tt
 line_columns z r s (e ∷ es) pz =
-    let rest : All (λ c. (s ≤ c) × (c < s + suc (length es) * z)) (line_row z r (s + z) es) =
+    let rest : AllByRecursion (λ c. (s ≤ c) × (c < s + suc (length es) * z)) (line_row z r (s + z) es) =
     All-weaker (λ c. (s + z ≤ c) × (c < s + z + length es * z)) (λ c. (s ≤ c) × (c < s + suc (length es) * z)) (λ c p. (omega arith, omega (arith, p.1, suc-mul (length es) z))) (line_row z r (s + z) es) (line_columns z r (s + z) es pz) in
-    by_square (All (λ c. (s ≤ c) × (c < s + suc (length es) * z))) z r s (shift_of e) (line_row z r (s + z) es)
+    by_square (AllByRecursion (λ c. (s ≤ c) × (c < s + suc (length es) * z))) z r s (shift_of e) (line_row z r (s + z) es)
     (λ t. ((omega arith, omega (arith, mod_below (r % z + t) z pz, suc-mul (length es) z)), rest))
     rest
 

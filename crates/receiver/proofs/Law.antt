@@ -2,7 +2,7 @@
 use Rattle.std.proofs.Common.{◌≡◌, ℕ, ◌<◌, ◌≤◌, Bool, true, false, ◌||◌, eqb, ltb, ◌≢◌, List, [], ◌∷◌, length, get_or, take, set, replicate, Some, None, Option, sym, refl, ap, ◌∙◌, subst, arith, length-set, get_or-set_other, get_or-set_same, ltb-false, eqb-true, leb-false}
 use lib.ListN.{length-replicate, get_or-replicate}
 use borrow.Author.Tests.{eqb-false, not-false, clash, both_ways}
-use Rattle.std.specs.List.{AllByRecursion as All}
+use Rattle.std.specs.List.{AllByRecursion}
 use Rattle.std.proofs.ByRecursion.{All-weaker}
 use Rattle.symbols.specs.Kinds.{Kind}
 use Rattle.receiver.specs.declared.block.Out.TheVariants.{Nothing}
@@ -94,7 +94,7 @@ module _ {S : Type 0} (K : Kind S) where
     out = out;
     whole = whole;
     room = omega (arith, few, ap length flags ∙ length-replicate {A = Bool} 512 false);
-    kept = subst (All (Kept K m)) (sym none) tt;
+    kept = subst (AllByRecursion (Kept K m)) (sym none) tt;
     marked = λ p lt. ap (λ l. get_or l p false) flags ∙ get_or-replicate {A = Bool} 512 p false false (omega (arith, few, lt)) ∙ sym (ap (λ ks. borne ks p) none);
     found = λ is. nothing_full m.out off is;
   }

@@ -13,7 +13,7 @@
 --   Truth         what is true of an event, after what was told before it
 --   Truths        each event of a history was true when it came
 use Rattle.std.specs.Prelude.{◌≡◌, ℕ, ◌<◌, Bool, false, not, ◌&&◌, ◌||◌, ◌↔◌, List, [], ◌∷◌, length, Some, None, Option, ◌==◌, nat_lt, slice_index_or}
-use Rattle.std.specs.List.{AllByRecursion as All}
+use Rattle.std.specs.List.{AllByRecursion}
 use Rattle.symbols.specs.Kinds.{Kind}
 use Rattle.codes.specs.Matrix.{Matrix}
 use Rattle.codes.specs.Codewords.{Codeword}
@@ -107,11 +107,11 @@ view o t = record { number = o.number; stamp = t.stamp; places = o.places; out =
 module _ {S : Type 0} (K : Kind S) where
   pub record Agrees (ks : List (Packet S)) (code : Matrix) (w : List S) : Type 0 where
     pub codeword : Codeword K code w
-    pub has_each : All (λ k. slice_index_or w k.place K.zero ≡ k.symbol) ks
+    pub has_each : AllByRecursion (λ k. slice_index_or w k.place K.zero ≡ k.symbol) ks
 
   -- all packets taken were taken under the block's stamp
   abbrev pub Under : Told S → Type 0
-  Under t = All (λ k. k.stamp ≡ t.stamp) t.packets
+  Under t = AllByRecursion (λ k. k.stamp ≡ t.stamp) t.packets
 
   -- a permit bears the block's number and stamp
   abbrev pub Bears : Opened → Told S → Found → Type 0

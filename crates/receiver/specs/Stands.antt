@@ -6,7 +6,7 @@
 --   Stands        the events were true, and the block is tied to them
 --   GoesOn        whatever history stands of a block, with this event more it stands of the block after it
 use Rattle.std.specs.Prelude.{◌≡◌, ℕ, ◌<◌, ◌≤◌, false, List, ◌++◌, length, get_or, Some, None, Option, slice_index_or}
-use Rattle.std.specs.List.{AllByRecursion as All}
+use Rattle.std.specs.List.{AllByRecursion}
 use Rattle.symbols.specs.Kinds.{Kind}
 use Rattle.method.specs.Fillings.{Only}
 use Rattle.receiver.specs.declared.block.Out.TheVariants.{Full}
@@ -34,7 +34,7 @@ module _ {S : Type 0} (K : Kind S) where
     pub out : m.out ≡ t.out
     pub whole : length m.table ≡ m.n
     pub room : m.n ≤ length m.received
-    pub kept : All (Kept m) t.packets
+    pub kept : AllByRecursion (Kept m) t.packets
     pub marked : (p : ℕ) → p < m.n → slice_index_or m.received p false ≡ borne t.packets p
     pub found : m.out ≡ Full → IsFound t.last m.table
 

@@ -1,7 +1,7 @@
 -- A search whose rows are loaded, and nothing done yet: the method's start.
 use Rattle.std.proofs.Common.{◌≡◌, ℕ, ◌*◌, ◌<◌, ◌≤◌, Bool, true, false, ◌&&◌, eqb, List, [], map, length, get_or, take, sym, refl, ap, ◌∙◌, subst, ap₂, arith}
 use lib.ListN.{length-map}
-use Rattle.std.specs.List.{AllByRecursion as All}
+use Rattle.std.specs.List.{AllByRecursion}
 use Rattle.std.proofs.lemmas.List.FromFn.{get_or-map-range_with_len, length-map-range_with_len}
 use Rattle.std.proofs.lemmas.List.{ext_get_or, get_or-map, get_or-replicate, length-replicate, length-take-le}
 use Rattle.std.proofs.lemmas.Bool.{and_parts}
@@ -87,7 +87,7 @@ module _ {S : Type 0} (K : Kind S) (k : Matrix) (ok : Lawful k) (received : List
     room = record {
       named = omega (arith, begun.pivots, few_active);
       added = omega (arith, begun.additions, few_active);
-      low = subst (λ j. All (λ c. c < w.active.width) (take j w.pivots.columns)) (sym begun.pivots) tt;
+      low = subst (λ j. AllByRecursion (λ c. c < w.active.width) (take j w.pivots.columns)) (sym begun.pivots) tt;
       unfreed = begun.free;
     };
     tallied = record { counts = λ q h. counts_are q (omega (arith, long)); readies = readies };

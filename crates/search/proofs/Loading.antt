@@ -1,6 +1,6 @@
 -- A row of a code read column by column.
 use Rattle.std.proofs.Common.{◌≡◌, ℕ, zero, suc, ◌+◌, ◌*◌, ◌/◌, ◌<◌, ◌≤◌, Bool, true, false, not, ◌||◌, eqb, ◌⊎◌, List, [], ◌∷◌, ◌++◌, length, get_or, take, set, Some, None, Option, sym, refl, ap, ◌∙◌, ap₂, inl, inr, arith, length-append, length-set, get_or-set_other, get_or-set_same, below_more}
-use Rattle.std.specs.List.{slice_get, AllByRecursion as All}
+use Rattle.std.specs.List.{slice_get, AllByRecursion}
 use Rattle.std.proofs.lemmas.List.{ext_get_or, take_more, take_more_set}
 use Rattle.std.proofs.lemmas.Option.{slice_get-get_or}
 use Rattle.std.proofs.lemmas.Bool.{cases_eq, eq-eqb, ne_eqb}
@@ -61,7 +61,7 @@ count_marks n (x ∷ xs) h =
 pub row_short : (n : ℕ) (xs : List ℕ) → Lawful-row n xs → length xs ≤ n
 row_short n xs h = omega (arith, count_marks n xs h, count_le (marks n xs), length_table n (λ c. member c xs))
 
-pub lawful_row : (n : ℕ) (rows : List (List ℕ)) → All (Lawful-row n) rows → (r : ℕ) → Lawful-row n (get_or rows r [])
+pub lawful_row : (n : ℕ) (rows : List (List ℕ)) → AllByRecursion (Lawful-row n) rows → (r : ℕ) → Lawful-row n (get_or rows r [])
 lawful_row n [] h r = record { within = tt; apart = tt }
 lawful_row n (row ∷ rows) h zero = h.0
 lawful_row n (row ∷ rows) h (suc r) = lawful_row n rows h.1 r

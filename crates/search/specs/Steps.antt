@@ -10,7 +10,7 @@
 --   settled       a state with each of its pivots settled
 --   Bounded       what the counts of a search come to at most
 use Rattle.std.specs.Prelude.{◌≡◌, ℕ, suc, ◌+◌, ◌*◌, ◌<◌, ◌≤◌, Bool, true, cond, ◌&&◌, List, map, length, Some, None, Option, ◌==◌, slice_index}
-use Rattle.std.specs.List.{AllByRecursion as All}
+use Rattle.std.specs.List.{AllByRecursion}
 use Rattle.symbols.specs.Kinds.{Kind}
 use Rattle.method.specs.Sets.{has, bump, meet, count, lowest}
 use Rattle.method.specs.Method.{Row, State, Choice, ready, only_column, row_of, step, settle}
@@ -29,7 +29,7 @@ pub record Sized {S : Type 0} (n : ℕ) (ws : List ℕ) (ss : List S) (w : Work)
 pub record Room (w : Work) : Type 0 where
   pub named : w.pivots.len + count (shown w.active) ≤ 512
   pub added : w.additions + 256 * count (shown w.active) ≤ 131072
-  pub low : All (λ c. c < w.active.width) (listed w.pivots)
+  pub low : AllByRecursion (λ c. c < w.active.width) (listed w.pivots)
   pub unfreed : w.free.len ≡ 0
 
 pub record Tallied {S : Type 0} (K : Kind S) (rows : List (Row S)) (active : List Bool) (t : Tally) : Type 0 where

@@ -1,6 +1,6 @@
 -- One call on the side that it goes to: an open, a call on a block that was never opened, and any other.
 use Rattle.std.proofs.Common.{◌≡◌, ℕ, ◌+◌, Bool, true, false, cond, eqb, ltb, List, [], length, is_some, Some, None, Ok, MatchBool, Option, sym, refl, ap, ◌∙◌, subst, arith, le-ltb}
-use Rattle.std.specs.List.{AllByRecursion as All}
+use Rattle.std.specs.List.{AllByRecursion}
 use Rattle.symbols.specs.Kinds.{Kind}
 use Rattle.receiver.specs.declared.block.Out.TheVariants.{Nothing}
 use Rattle.receiver.specs.declared.fault.Fault.{Fault}
@@ -86,11 +86,11 @@ module _ {S : Type 0} (g : Setting S) where
     }
 
   -- every event of a side's blocks was true
-  all_true : (o : Option Opened) (h : List (Event S)) (ds : List (Day S)) (m : Block S) → Standing g.kind o h m → All (DayTrue g) ds → All (DayTrue g) (retired_with o h ds)
+  all_true : (o : Option Opened) (h : List (Event S)) (ds : List (Day S)) (m : Block S) → Standing g.kind o h m → AllByRecursion (DayTrue g) ds → AllByRecursion (DayTrue g) (retired_with o h ds)
   all_true None h ds m s w = w
   all_true (Some p) h ds m s w = (s.truths, w)
 
-  pub retired_true : (x : Side S) → Good g x → All (DayTrue g) (retired x)
+  pub retired_true : (x : Side S) → Good g x → AllByRecursion (DayTrue g) (retired x)
   retired_true x w = all_true x.opened x.history x.past x.block w.standing w.past
 
 opened_out : {S : Type 0} (K : Kind S) (f : Option Fault) (b s : ℕ) (xs : List S) → (opened_by K f b s xs).out ≡ Nothing

@@ -1,8 +1,8 @@
 pub mod Carrying
 pub mod Holding
 pub mod Naming
+pub mod NamingLaws
 pub mod Obeying
 pub mod Sessions
 pub mod Sides
 pub mod Tasks
-pub mod NamedPolicyLemmas

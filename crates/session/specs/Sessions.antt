@@ -12,7 +12,7 @@
 --   emptied       memory after a session
 --   Good, Asked, Turned, Going, Cut, OpenMade    what the parts of a session do
 use Rattle.std.specs.Prelude.{◌≡◌, ℕ, ◌+◌, ◌<◌, Bool, true, false, List, [], ◌∷◌, length, replicate, is_some, Some, None, Ok, Err, MatchBool, Option, Result, ◌≢◌, nat_lt}
-use Rattle.std.specs.List.{AllByRecursion as All}
+use Rattle.std.specs.List.{AllByRecursion}
 use Rattle.symbols.specs.Kinds.{Kind}
 use Rattle.receiver.specs.declared.fault.Fault.{Fault}
 use Rattle.receiver.specs.declared.permit.Permit.{Permit}
@@ -93,8 +93,8 @@ module _ {S : Type 0} (g : Setting S) where
 
   -- every event of every block that a granted open gave was true when it came
   pub record AllTrue (x : Now S) : Type 0 where
-    pub first : All DayTrue (retired x.first)
-    pub second : All DayTrue (retired x.second)
+    pub first : AllByRecursion DayTrue (retired x.first)
+    pub second : AllByRecursion DayTrue (retired x.second)
 
   -- nothing is opened yet
   abbrev pub unopened : Side S
@@ -120,7 +120,7 @@ module _ {S : Type 0} (g : Setting S) where
   pub record Good (x : Side S) : Type 0 where
     pub standing : Standing g.kind x.opened x.history x.block
     pub holding : Holding x.block x.held
-    pub past : All DayTrue x.past
+    pub past : AllByRecursion DayTrue x.past
 
   -- what one call does to the side that it goes to
   pub record Asked (other : Option Permit) (x : Side S) (room : ℕ) (o : Order S) (e : Entry S) (begun : Bool) (m : Block S) (q : Option Permit) (room' : ℕ) : Type 0 where

@@ -1,6 +1,6 @@
 // The policy that a name stands for.
 ghost use Rattle.session.specs.Naming.{named_choice};
-ghost use Rattle.session.specs.NamedPolicyLemmas.{named_names};
+ghost use Rattle.session.specs.NamingLaws.{named_names};
 
 use codes::Code;
 use piles::PolicyName;

@@ -1,8 +1,10 @@
+pub mod BitLaws
 pub mod Bits
+pub mod CellLaws
 pub mod Cells
 pub mod Kinds
+pub mod PairLaws
 pub mod Pairs
 pub mod Sums
+pub mod WordLaws
 pub mod Words
-pub mod CellsLemmas
-pub mod PairsLemmas

@@ -1,6 +1,6 @@
 // The bit as a symbol: exclusive or.
+ghost use Rattle.symbols.specs.BitLaws.{bit_laws};
 ghost use Rattle.symbols.specs.Bits.{bit_kind};
-ghost use Rattle.std.proofs.Common.{rules};
 
 use crate::kinds::Bit;
 use crate::symbol::Symbol;
@@ -8,7 +8,7 @@ use crate::symbol::Symbol;
 impl Symbol for Bit {
     ghost kind = { bit_kind };
 
-    ghost lawful = { Prim.search rules };
+    ghost lawful = { bit_laws };
 
     fn zero() -> Bit {
         Bit::Zero

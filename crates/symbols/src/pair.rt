@@ -1,6 +1,6 @@
 // The pair of two symbols as a symbol: summed part by part.
 ghost use Rattle.symbols.specs.Pairs.{pair_kind};
-ghost use Rattle.symbols.specs.PairsLemmas.{pair_laws};
+ghost use Rattle.symbols.specs.PairLaws.{pair_laws};
 
 use crate::kinds::Pair;
 use crate::symbol::Symbol;

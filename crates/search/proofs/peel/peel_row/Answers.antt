@@ -1,5 +1,5 @@
 use Rattle.std.proofs.Common.{◌≡◌, ℕ, ◌<◌, length, get_or, sym, ap, ◌∙◌, subst, arith}
-use Rattle.std.specs.List.{AllByRecursion as All}
+use Rattle.std.specs.List.{AllByRecursion}
 use Rattle.method.specs.Sets.{has}
 use Rattle.method.specs.Method.{unused, use_row, row_of}
 use Rattle.policies.specs.Shown.{shown}
@@ -72,7 +72,7 @@ returns g c =
         sized = record { wide = e.sized.wide; high = e.sized.high; few = e.sized.few; within = e.sized.within };
         room = room_next w _ c.requires.going.room (fewer_active (shown w.active) (shown w'.active) c.args.c active_is c.requires.ready.is_active)
             (omega (arith, ap (λ t. t.len) same.1)) e.few
-            (subst (λ t. All (λ d. d < w'.active.width) (listed t)) (sym same.1) (subst (λ m. All (λ d. d < m) (listed w.pivots)) (sym e.sized.wide) c.requires.going.room.low))
+            (subst (λ t. AllByRecursion (λ d. d < w'.active.width) (listed t)) (sym same.1) (subst (λ m. AllByRecursion (λ d. d < m) (listed w.pivots)) (sym e.sized.wide) c.requires.going.room.low))
             (ap (λ t. t.len) same.2);
         tallied = tallied_moved K rows_are active_is
             (tallied_used K rows (shown w.active) (shown held) (shown w'.uses.unused) c.args.r c.args.c w.tally c.lower.new.self c.requires.going.tallied

@@ -1,5 +1,5 @@
 use Rattle.std.proofs.Common.{◌<◌, false, length, sym, refl, ap, ◌∙◌, subst, arith}
-use Rattle.std.specs.List.{AllByRecursion as All}
+use Rattle.std.specs.List.{AllByRecursion}
 use Rattle.std.proofs.ByRecursion.{All-push}
 use Rattle.policies.specs.Shown.{shown}
 use Rattle.policies.proofs.Marks.{shown_below}
@@ -53,8 +53,8 @@ returns g c =
         sized = record { wide = wide; high = c.requires.going.sized.high; few = c.requires.going.sized.few; within = c.requires.going.sized.within };
         room = room_next w _ c.requires.going.room (fewer_active (shown w.active) (shown c.leave.new.self) c.args.c c.leave.ensures c.requires.active)
             (omega (arith, c.push.ensures.len)) (omega arith)
-            (subst (All (λ d. d < c.leave.new.self.width)) (sym c.push.ensures.listed)
-            (All-push (λ d. d < c.leave.new.self.width) (listed w.pivots) c.args.c (subst (λ m. All (λ d. d < m) (listed w.pivots)) (sym wide) c.requires.going.room.low) (omega (arith, wide))))
+            (subst (AllByRecursion (λ d. d < c.leave.new.self.width)) (sym c.push.ensures.listed)
+            (All-push (λ d. d < c.leave.new.self.width) (listed w.pivots) c.args.c (subst (λ m. AllByRecursion (λ d. d < m) (listed w.pivots)) (sym wide) c.requires.going.room.low) (omega (arith, wide))))
             refl;
         tallied = tallied_moved K same_rows c.leave.ensures
             (tallied_next K rows rows (shown w.active) (shown held) (shown w.uses.unused) c.args.c w.tally c.lower.new.self c.requires.going.tallied c.lower.ensures

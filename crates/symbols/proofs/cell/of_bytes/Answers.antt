@@ -1,5 +1,5 @@
 use Rattle.std.proofs.Common.{sym, refl, rules}
-use Rattle.symbols.specs.CellsLemmas.{same_cell, fitted_is}
+use Rattle.symbols.specs.CellLaws.{same_cell, fitted_is}
 use Rattle.symbols.proofs.cell.of_bytes.Goals as goal
 
 pub returns : goal.returns

@@ -1,4 +1,4 @@
--- The laws of the pair, from those of its parts.
+-- The laws of the pair, from those of its parts. (Lemmas: nothing here is to be believed.)
 use Rattle.std.specs.Prelude.{◌&&◌}
 use Rattle.std.proofs.Common.{ap, ap₂}
 use Rattle.std.proofs.lemmas.Bool.Decides.{Decides-and, Decides-like}

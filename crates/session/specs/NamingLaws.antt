@@ -1,3 +1,4 @@
+-- A policy by name names an active column, and none only where no column is active. (Lemmas: nothing here is to be believed.)
 use Rattle.std.specs.Prelude.{Bool, List}
 use Rattle.codes.specs.Matrix.{Matrix}
 use Rattle.method.specs.Choices.{Names, plain, first, heaviest, column_weight}
