@@ -1,4 +1,5 @@
-// The permit that a granted solve gives: plain numbers that can be read and never set.
+// The permit that a granted solve gives: plain numbers that can be read and never set. It has no Drop, so the compiler
+// lets nobody let one go: a permit is spent by closing its block.
 ghost use Rattle.std.specs.Prelude.{◌≡◌};
 
 use crate::fault::Stamp;
@@ -14,19 +15,6 @@ pub struct Permit {
 pub struct Unclosed {
     pub stamp: Stamp,
     pub permit: Permit,
-}
-
-// A permit is never let go: nobody can show what this asks. It is spent by closing its block.
-impl Drop for Permit {
-    fn drop(self)
-        requires { ⊥ }
-    {
-        let Permit {
-            number: _,
-            stamp: _,
-            report: _,
-        } = self;
-    }
 }
 
 impl Permit {
