@@ -2,7 +2,7 @@
 
     python3 tests/outside/compare.py PROGRAM [SEEDS [LINES]]
 
-PROGRAM is target/bin/panel after a check; it is run on nothing, on the example day,
+PROGRAM is crates/panel/out/panel after rt run; it is run on nothing, on the example day,
 and on SEEDS scripts of the edges and LINES random lines each.
 """
 
