@@ -19,16 +19,6 @@ pub trait Rows {
 
     fn column(&self, r: usize, i: usize) -> Option<usize>
         ensures { result ≡ column_at (matrix self.now) r i };
-
-    // The weight together with the shape, for a layer above that wants both: one question in place of two.
-    fn weighed(&self, r: usize) -> (Shape, usize)
-        ensures shape { result.0 ≡ shape_of (matrix self.now) }
-        ensures weight { result.1 ≡ weight (matrix self.now) r };
-
-    // The column together with the shape.
-    fn placed(&self, r: usize, i: usize) -> (Shape, Option<usize>)
-        ensures shape { result.0 ≡ shape_of (matrix self.now) }
-        ensures column { result.1 ≡ column_at (matrix self.now) r i };
 }
 
 pub trait Code: Rows {

@@ -1,10 +1,9 @@
 // A code over another one, with its rows and its columns turned.
-ghost use Rattle.std.specs.Prelude.{◌≡◌, true};
-ghost use Rattle.codes.specs.Matrix.{weight, column_at};
+ghost use Rattle.std.specs.Prelude.{◌≡◌};
 ghost use Rattle.codes.specs.Shapes.{shape_of};
 ghost use Rattle.layers.specs.LayerLaws.{interleaved_lawful};
-ghost use Rattle.layers.specs.Layers.{turn, squares_fit, interleaved, Fitted};
-ghost use Rattle.layers.specs.Rows.{Shows};
+ghost use Rattle.layers.specs.Layers.{squares_fit, interleaved, Fitted};
+ghost use Rattle.layers.specs.Rows.{column_above, Shows};
 
 use crate::turning::turn;
 use codes::{Code, Refusal, Rows, Shape, scan};
@@ -19,53 +18,29 @@ pub struct Interleaved<C> {
 }
 
 impl<C: Rows> Interleaved<C> {
-    // Whether a code of these sizes is of such squares.
-    fn fits(&self, shape: Shape) -> bool
-        ensures { result ≡ squares_fit self.now.a self.now.b self.now.z shape }
+    // Whether the code below is of such squares. Asks its sizes once.
+    fn fits(&self) -> bool
+        ensures { result ≡ squares_fit self.now.a self.now.b self.now.z (shape_of (C.Rows.matrix self.now.below)) }
     {
+        let shape = self.below.shape();
         self.a.checked_mul(self.z) == Some(shape.rows)
             && self.b.checked_mul(self.z) == Some(shape.columns)
     }
 
-    // The row below that row r shows, where the code below fits.
-    fn row_below(&self, r: usize) -> usize
-        ensures { squares_fit self.now.a self.now.b self.now.z (shape_of (C.Rows.matrix self.now.below)) ≡ true → Shows self.now.a self.now.b self.now.z (C.Rows.matrix self.now.below) r result }
+    // The row below that row r shows.
+    fn row_below(&self, fits: bool, r: usize) -> usize
+        requires { fits ≡ squares_fit self.now.a self.now.b self.now.z (shape_of (C.Rows.matrix self.now.below)) }
+        ensures { Shows self.now.a self.now.b self.now.z (C.Rows.matrix self.now.below) fits r result }
     {
-        turn(self.z, self.a, r)
+        if fits { turn(self.z, self.a, r) } else { r }
     }
 
-    // Where column c of the code below goes, where that fits.
-    fn column_above(&self, c: usize) -> usize
-        ensures { squares_fit self.now.a self.now.b self.now.z (shape_of (C.Rows.matrix self.now.below)) ≡ true → result ≡ turn self.now.b self.now.z c }
+    // Where column c of the code below goes.
+    fn column_above(&self, fits: bool, c: usize) -> usize
+        requires { fits ≡ squares_fit self.now.a self.now.b self.now.z (shape_of (C.Rows.matrix self.now.below)) }
+        ensures { result ≡ column_above fits self.now.b self.now.z c }
     {
-        turn(self.b, self.z, c)
-    }
-
-    // The row below is asked as if the code below fitted, and again only where its sizes tell that it does not.
-    fn weight_of(&self, r: usize) -> (Shape, usize)
-        ensures shape { result.0 ≡ shape_of (interleaved self.now.a self.now.b self.now.z (C.Rows.matrix self.now.below)) }
-        ensures weight { result.1 ≡ weight (interleaved self.now.a self.now.b self.now.z (C.Rows.matrix self.now.below)) r }
-    {
-        let (shape, weight) = self.below.weighed(self.row_below(r));
-        if self.fits(shape) {
-            (shape, weight)
-        } else {
-            self.below.weighed(r)
-        }
-    }
-
-    fn column_of(&self, r: usize, i: usize) -> (Shape, Option<usize>)
-        ensures shape { result.0 ≡ shape_of (interleaved self.now.a self.now.b self.now.z (C.Rows.matrix self.now.below)) }
-        ensures column { result.1 ≡ column_at (interleaved self.now.a self.now.b self.now.z (C.Rows.matrix self.now.below)) r i }
-    {
-        let (shape, column) = self.below.placed(self.row_below(r), i);
-        if !self.fits(shape) {
-            return self.below.placed(r, i);
-        }
-        match column {
-            Some(c) => (shape, Some(self.column_above(c))),
-            None => (shape, None),
-        }
+        if fits { turn(self.b, self.z, c) } else { c }
     }
 }
 
@@ -79,19 +54,16 @@ impl<C: Rows> Rows for Interleaved<C> {
     }
 
     fn weight(&self, r: usize) -> usize {
-        self.weight_of(r).1
+        let fits = self.fits();
+        self.below.weight(self.row_below(fits, r))
     }
 
     fn column(&self, r: usize, i: usize) -> Option<usize> {
-        self.column_of(r, i).1
-    }
-
-    fn weighed(&self, r: usize) -> (Shape, usize) {
-        self.weight_of(r)
-    }
-
-    fn placed(&self, r: usize, i: usize) -> (Shape, Option<usize>) {
-        self.column_of(r, i)
+        let fits = self.fits();
+        match self.below.column(self.row_below(fits, r), i) {
+            Some(c) => Some(self.column_above(fits, c)),
+            None => None,
+        }
     }
 }
 
@@ -111,7 +83,7 @@ pub fn interleave<C: Rows + Drop>(
     ensures { Fitted (squares_fit a b z (shape_of (C.Rows.matrix below))) (record { below = below; a = a; b = b; z = z }) result }
 {
     let layer = Interleaved { below, a, b, z };
-    if layer.fits(layer.below.shape()) {
+    if layer.fits() {
         Ok(layer)
     } else {
         Err(Refusal::BadShape)

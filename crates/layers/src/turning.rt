@@ -2,14 +2,10 @@
 ghost use Rattle.std.specs.Prelude.{◌≡◌, ◌*◌, ◌≤◌};
 ghost use Rattle.layers.specs.Layers.{turn};
 
-use codes::MAX_COLUMNS;
-
-// Place x * q + y becomes place x + y * p, for the places below p * q. Where p * q is beyond every code no place is turned.
+// Place x * q + y becomes place x + y * p, for the places below p * q.
 pub(crate) fn turn(p: usize, q: usize, i: usize) -> usize
-    ensures { p * q ≤ 512 → result ≡ turn p q i }
+    requires { p * q ≤ 512 }
+    ensures { result ≡ turn p q i }
 {
-    match p.checked_mul(q) {
-        Some(places) if places <= MAX_COLUMNS && i < places => i / q + i % q * p,
-        _ => i,
-    }
+    if i < p * q { i / q + i % q * p } else { i }
 }

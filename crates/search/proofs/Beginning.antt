@@ -1,24 +1,23 @@
 -- A search whose rows are loaded, and nothing done yet: the method's start.
-use Rattle.std.proofs.Common.{◌≡◌, ℕ, ◌+◌, ◌*◌, ◌<◌, ◌≤◌, Bool, true, false, ◌&&◌, eqb, ◌⊎◌, List, [], map, length, get_or, take, replicate, None, sym, refl, ap, ◌∙◌, subst, ap₂, inl, inr, arith}
+use Rattle.std.proofs.Common.{◌≡◌, ℕ, ◌*◌, ◌<◌, ◌≤◌, Bool, true, false, ◌&&◌, eqb, List, [], map, length, get_or, take, sym, refl, ap, ◌∙◌, subst, ap₂, arith}
 use lib.ListN.{length-map}
-use Rattle.std.specs.List.{range_with_len, AllByRecursion}
+use Rattle.std.specs.List.{AllByRecursion}
 use Rattle.std.proofs.lemmas.List.FromFn.{get_or-map-range_with_len, length-map-range_with_len}
 use Rattle.std.proofs.lemmas.List.{ext_get_or, get_or-map, get_or-replicate, length-replicate, length-take-le}
-use Rattle.std.proofs.lemmas.Bool.{cases_Bool, and_parts, and_right}
-use Rattle.bits.specs.Sets.{row}
+use Rattle.std.proofs.lemmas.Bool.{and_parts}
 use Rattle.symbols.specs.Kinds.{Kind}
 use Rattle.codes.specs.Matrix.{Matrix, Lawful, row_at, height, member}
 use Rattle.method.specs.Sets.{has, meet, count, marks, marked}
-use Rattle.method.specs.Method.{Row, missing, unused, ready, row_of, blank, start_row, start_rows, start}
+use Rattle.method.specs.Method.{Row, missing, ready, row_of, blank, start_row, start_rows, start}
 use Rattle.method.proofs.Counts.{count_le}
 use Rattle.method.proofs.Marks.{has_meet, marks_in, member_marked, marked_lawful}
-use Rattle.policies.specs.Shown.{marks_of, shown}
+use Rattle.policies.specs.Shown.{shown}
 use Rattle.policies.proofs.Marks.{length_shown}
 use Rattle.search.specs.declared.work.Work.{Work}
 use Rattle.search.specs.Loads.{Loaded, Begun, single}
 use Rattle.search.specs.Searches.{marks_in as places-in}
 use Rattle.search.specs.Steps.{Going}
-use Rattle.search.specs.View.{listed, used_if, lines, bare}
+use Rattle.search.specs.View.{used_if, lines, bare}
 use Rattle.search.proofs.Lines.{length_lines, line_at, unused_at}
 use Rattle.search.proofs.Loading.{count_marks, lawful_row}
 use Rattle.search.proofs.Tallies.{count_same}

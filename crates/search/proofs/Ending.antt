@@ -1,18 +1,16 @@
 -- The state at the end of a search, and what is told of it.
-use Rattle.std.proofs.Common.{◌≡◌, ℕ, ◌*◌, ◌<◌, ◌≤◌, Bool, true, false, cond, ltb, ◌⊎◌, List, [], ◌∷◌, length, get_or, take, replicate, is_some, Some, None, Ok, Err, Option, Result, sym, refl, ap, ◌∙◌, ap₂, inl, inr, true≢false, arith}
+use Rattle.std.proofs.Common.{◌≡◌, ℕ, ◌*◌, ◌<◌, ◌≤◌, Bool, true, false, List, [], ◌∷◌, length, get_or, replicate, is_some, Some, None, Ok, Err, Option, sym, refl, ap, ◌∙◌, ap₂, true≢false, arith}
 use mathlib.Core.Bool.{false≢true}
 use Rattle.std.proofs.lemmas.List.{length-take-le}
-use Rattle.std.proofs.lemmas.Bool.{cases_lt, lt-ltb, le-ltb}
 use Rattle.symbols.specs.Kinds.{Kind}
 use Rattle.codes.specs.Matrix.{Matrix, height}
 use Rattle.method.specs.Sets.{lowest}
-use Rattle.method.specs.Method.{State, Choice, start, steps, settle, final, answer, answer_at, method, clash, filled, row_for}
-use Rattle.search.specs.declared.answer.Unfound.{Unfound}
+use Rattle.method.specs.Method.{Choice, start, steps, final, answer, answer_at, method, clash, filled, row_for}
 use Rattle.search.specs.declared.answer.Unfound.TheVariants.{NoCodeword, Several}
 use Rattle.search.specs.declared.found.Found.{Found}
 use Rattle.search.specs.declared.trail.Trail.{Trail}
 use Rattle.search.specs.declared.work.Work.{Work}
-use Rattle.search.specs.Answers.{report_of, against, told}
+use Rattle.search.specs.Answers.{report_of, told}
 use Rattle.search.specs.Found.{wiped}
 use Rattle.search.specs.Places.{Placed}
 use Rattle.search.specs.Searches.{marks_in, outcome, end, Run}
@@ -20,13 +18,6 @@ use Rattle.search.specs.Steps.{settled, Bounded}
 use Rattle.search.specs.View.{listed, lines, view, bare, with_policy}
 use Rattle.search.proofs.Placing.{place_right, place_within}
 use Rattle.search.proofs.Wiped.{wiped_whole}
-
-abbrev else_this : Unfound → Option Unfound → Unfound
-else_this d None = d
-else_this d (Some x) = x
-
-some_same : {d e : Unfound} → Some d ≡ Some e → d ≡ e
-some_same {d} e = ap (else_this d) e
 
 -- started, peeled and settled: the method's last state
 pub ended : {S P : Type 0} (K : Kind S) (choice : Matrix → Choice P) (k : Matrix) (received : List Bool) (syms : List S) (p p' : P)
@@ -97,7 +88,25 @@ module _ {S P : Type 0} (K : Kind S) (choice : Matrix → Choice P) (k : Matrix)
   cleared : (ss' : List S) → ss' ≡ wiped K.zero (length ss) ss → ss' ≡ replicate (height k) K.zero
   cleared ss' e = e ∙ wiped_whole K.zero (length ss) ss refl ∙ ap (λ j. replicate j K.zero) high
 
-  run_one : w.free.len ≤ 0 → false ≡ is_some (lowest (clash K) (lines K w.active.width ws ss w.uses)) → (f : Found)
+  pub run_none : true ≡ is_some (lowest (clash K) (lines K w.active.width ws ss w.uses)) → (ss' : List S) → ss' ≡ wiped K.zero (length ss) ss
+      → Run K choice k received syms p p' ws' ss' (Err (NoCodeword (report_of w.pivots.len w.additions)))
+  run_none e ss' z = record {
+    answer = none_told K choice k received syms p p' ws ss w is few e;
+    policy = ap (λ s. s.policy) is;
+    words = zeros;
+    sides = cleared ss' z;
+  }
+
+  pub run_several : 0 < w.free.len → false ≡ is_some (lowest (clash K) (lines K w.active.width ws ss w.uses)) → (ss' : List S) → ss' ≡ wiped K.zero (length ss) ss
+      → Run K choice k received syms p p' ws' ss' (Err (Several (report_of w.pivots.len w.additions) w.free.len))
+  run_several some e ss' z = record {
+    answer = several_told K choice k received syms p p' ws ss w is few some e;
+    policy = ap (λ s. s.policy) is;
+    words = zeros;
+    sides = cleared ss' z;
+  }
+
+  pub run_one : w.free.len ≤ 0 → false ≡ is_some (lowest (clash K) (lines K w.active.width ws ss w.uses)) → (f : Found)
       → f.report ≡ report_of w.pivots.len w.additions → Placed w.uses 0 (length ss) f.rows → Run K choice k received syms p p' ws' ss (Ok f)
   run_one none e f told_is placed = record {
     answer = ap Ok told_is ∙ one_told K choice k received syms p p' ws ss w is few none e;
@@ -107,36 +116,3 @@ module _ {S P : Type 0} (K : Kind S) (choice : Matrix → Choice P) (k : Matrix)
         place_within K c ss rest w.uses (get_or f.rows c None) (placed.each c l) ∙ place_right K c w.active.width ws ss w.uses (get_or f.rows c None) (placed.each c l)
         ∙ ap (λ s. (row_for K c s.rows).right) is;
   }
-
-  -- a clash, or else a free pivot, stands against one codeword
-  pub run_unfound : (b : Bool) → b ≡ is_some (lowest (clash K) (lines K w.active.width ws ss w.uses)) → (e : Unfound)
-      → Some e ≡ against b w.pivots.len w.additions w.free.len → (ss' : List S) → ss' ≡ wiped K.zero (length ss) ss
-      → Run K choice k received syms p p' ws' ss' (Err e)
-  run_unfound b is-clash e so ss' z = record {
-    answer = told_so b is-clash so (cases_lt 0 w.free.len);
-    policy = ap (λ s. s.policy) is;
-    words = zeros;
-    sides = cleared ss' z;
-  }
-    where
-      free_is : {b : Bool} → ltb 0 w.free.len ≡ b → Some e ≡ against false w.pivots.len w.additions w.free.len
-          → Some e ≡ cond b (Some (Several (report_of w.pivots.len w.additions) w.free.len)) None
-      free_is z so = so ∙ ap (λ b. cond b (Some (Several (report_of w.pivots.len w.additions) w.free.len)) None) z
-
-      told_so : (b : Bool) → b ≡ is_some (lowest (clash K) (lines K w.active.width ws ss w.uses)) → Some e ≡ against b w.pivots.len w.additions w.free.len
-          → (0 < w.free.len) ⊎ (w.free.len ≤ 0) → Err e ≡ told (outcome K choice k received syms p)
-      told_so true h so l = ap Err (some_same so) ∙ none_told K choice k received syms p p' ws ss w is few h
-      told_so false h so (inl l) = ap Err (some_same (free_is (lt-ltb 0 w.free.len l) so)) ∙ several_told K choice k received syms p p' ws ss w is few l h
-      told_so false h so (inr l) = absurd (true≢false (ap is_some (free_is (le-ltb 0 w.free.len l) so)))
-
-  -- nothing stands against it
-  pub run_found : (b : Bool) → b ≡ is_some (lowest (clash K) (lines K w.active.width ws ss w.uses))
-      → None ≡ against b w.pivots.len w.additions w.free.len → (f : Found)
-      → f.report ≡ report_of w.pivots.len w.additions → Placed w.uses 0 (length ss) f.rows → Run K choice k received syms p p' ws' ss (Ok f)
-  run_found true is-clash so f told_is placed = absurd (true≢false (sym (ap is_some so)))
-  run_found false is-clash so f told_is placed = go (cases_lt 0 w.free.len)
-    where
-      go : (0 < w.free.len) ⊎ (w.free.len ≤ 0) → Run K choice k received syms p p' ws' ss (Ok f)
-      go (inl l) =
-          absurd (true≢false (sym (ap is_some (so ∙ ap (λ b. cond b (Some (Several (report_of w.pivots.len w.additions) w.free.len)) None) (lt-ltb 0 w.free.len l)))))
-      go (inr l) = run_one l is-clash f told_is placed

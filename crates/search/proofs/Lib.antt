@@ -1,13 +1,10 @@
 pub mod Built  -- a set built by a loop over its numbers
-pub mod Gathering  -- a set made of words, and these of bits, by a test of each number
-pub mod Passed  -- a walk over a set: the numbers below a bound are passed
 pub mod Added  -- a row added to the rows of a set one after another
 pub mod Lowering  -- a tally lowered at the rows of a set one after another
 pub mod Rowsets  -- the words of a row and a set: what they share
 pub mod Wiped  -- a list whose first elements become zero
 pub mod Lines  -- the rows that words and right sides stand for
 pub mod Tallies  -- the tally of the rows, where a column leaves the active ones
-pub mod Keeping  -- the rows kept for each column from loading on
 pub mod Rooms  -- the room of a search, where a column leaves the active ones
 pub mod Stepping  -- one step, and steps to the end
 pub mod Lowest  -- the lowest place that passes a test, as a loop finds it

@@ -1,5 +1,5 @@
 -- The rows that words and right sides stand for.
-use Rattle.std.proofs.Common.{◌≡◌, ℕ, zero, suc, ◌+◌, ◌<◌, ◌≤◌, Bool, true, false, cond, not, ◌&&◌, eqb, ◌⊎◌, List, [], ◌∷◌, map, length, get_or, set, Some, None, Option, sym, refl, ap, ◌∙◌, ap₂, inl, inr, arith, length-set, get_or-set_other, get_or-set_same}
+use Rattle.std.proofs.Common.{◌≡◌, ℕ, zero, suc, ◌+◌, ◌<◌, ◌≤◌, Bool, true, false, not, ◌&&◌, ◌⊎◌, List, [], ◌∷◌, map, length, get_or, set, Some, Option, sym, refl, ap, ◌∙◌, ap₂, inl, inr, arith, length-set, get_or-set_other, get_or-set_same}
 use mathlib.Core.Bool.{and_comm}
 use lib.ListN.{length-map}
 use Rattle.std.specs.List.{range_with_len}
@@ -11,7 +11,7 @@ use Rattle.bits.proofs.Held.{holds_xors}
 use Rattle.bits.proofs.Rows.{length_row}
 use Rattle.symbols.specs.Kinds.{Kind}
 use Rattle.method.specs.Sets.{has, differs, sym_diff, meet, count, lowest, here_or}
-use Rattle.method.specs.Method.{Row, is_none, unused, row_holds, taken_for, holder, clash, row_of, blank, added, added_if, use_row, others, spend}
+use Rattle.method.specs.Method.{Row, is_none, unused, row_holds, taken_for, holder, clash, row_of, blank, added_if, use_row, others, spend}
 use Rattle.method.proofs.Rows.{use_same, use_other}
 use Rattle.policies.specs.declared.columns.Columns.{Columns}
 use Rattle.policies.specs.Shown.{marks_of, shown}

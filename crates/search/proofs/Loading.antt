@@ -1,17 +1,15 @@
 -- A row of a code read column by column.
-use Rattle.std.proofs.Common.{◌≡◌, ℕ, zero, suc, ◌+◌, ◌*◌, ◌/◌, ◌<◌, ◌≤◌, Bool, true, false, not, ◌||◌, eqb, ◌⊎◌, List, [], ◌∷◌, ◌++◌, length, get_or, take, set, Some, None, Option, sym, refl, ap, ◌∙◌, subst, ap₂, inl, inr, arith, length-append, length-set, get_or-set_other, get_or-set_same, below_more}
+use Rattle.std.proofs.Common.{◌≡◌, ℕ, zero, suc, ◌+◌, ◌*◌, ◌/◌, ◌<◌, ◌≤◌, Bool, true, false, not, ◌||◌, eqb, ◌⊎◌, List, [], ◌∷◌, ◌++◌, length, get_or, take, set, Some, None, Option, sym, refl, ap, ◌∙◌, ap₂, inl, inr, arith, length-append, length-set, get_or-set_other, get_or-set_same, below_more}
 use Rattle.std.specs.List.{slice_get, AllByRecursion}
-use Rattle.std.proofs.ByRecursion.{All-get_or}
-use Rattle.std.proofs.lemmas.List.{ext_get_or, take_more}
+use Rattle.std.proofs.lemmas.List.{ext_get_or, take_more, take_more_set}
 use Rattle.std.proofs.lemmas.Option.{slice_get-get_or}
 use Rattle.std.proofs.lemmas.Bool.{cases_eq, eq-eqb, ne_eqb}
 use Rattle.bits.specs.Sets.{holds, Put, row, put_row}
 use Rattle.bits.proofs.Rows.{row_put_same, row_put_other}
-use Rattle.symbols.specs.Kinds.{Kind, SumLaws}
-use Rattle.symbols.specs.Sums.{sum_at}
-use Rattle.codes.specs.Matrix.{Matrix, Lawful, row_at, member}
+use Rattle.symbols.specs.Kinds.{Kind}
+use Rattle.codes.specs.Matrix.{Matrix, member}
 use Rattle.codes.specs.Matrix.{Row as Lawful-row}
-use Rattle.method.specs.Sets.{has, bump, count, marks, kept_if, marked}
+use Rattle.method.specs.Sets.{has, count, marks, kept_if, marked}
 use Rattle.method.specs.Method.{missing}
 use Rattle.method.proofs.Counts.{count_clear, none_count, count_le}
 use Rattle.method.proofs.Marks.{has_missing, has_marks, length_table, marks_less, marks_none}
@@ -81,23 +79,18 @@ column_is cs i c l e = some_same c (get_or cs i 0) (e ∙ slice_get-get_or cs i 
 pub column_some : (cs : List ℕ) (i : ℕ) → i < length cs → None ≡ slice_get cs i → ⊥
 column_some cs i l e = some_none (get_or cs i 0) (e ∙ slice_get-get_or cs i 0 l)
 
--- one more place of a sum
-pub sum_at_push : {S : Type 0} {z : S} {sum : S → S → S} → SumLaws z sum → (syms : List S) (xs : List ℕ) (c : ℕ)
-    → sum_at z sum syms (xs ++ c ∷ []) ≡ sum (sum_at z sum syms xs) (get_or syms c z)
-sum_at_push laws syms [] c = laws.commutative _ _
-sum_at_push {z = z} {sum = sum} laws syms (x ∷ xs) c = ap (sum (get_or syms x z)) (sum_at_push laws syms xs c) ∙ sym (laws.associative _ _ _)
-
--- the first i columns are read, and l of them are missing
-pub record Reading {S : Type 0} (K : Kind S) (syms : List S) (got : List Bool) (cs : List ℕ) (i : ℕ) (line : List ℕ) (side : S) (l : ℕ) : Type 0 where
+-- the first i columns are read: g of them received, and l missing
+pub record Reading (got : List Bool) (cs : List ℕ) (i : ℕ) (line heard : List ℕ) (g l : ℕ) : Type 0 where
   pub eight : length line ≡ 8
   pub held : (d : ℕ) → holds line d ≡ member d (marked (missing got) (take i cs))
-  pub right : side ≡ sum_at K.zero K.sum syms (marked got (take i cs))
+  pub long : length heard ≡ 512
+  pub kept : take g heard ≡ marked got (take i cs)
   pub lost : l ≡ length (marked (missing got) (take i cs))
-  pub few : l ≤ i
+  pub few : g + l ≤ i
   pub short : length cs ≤ 512
 
-module _ {S : Type 0} (K : Kind S) (syms : List S) (got : List Bool) (cs : List ℕ) (i : ℕ) (line : List ℕ) (side : S) (l c : ℕ)
-    (so : Reading K syms got cs i line side l) (in' : i < length cs) (is : c ≡ get_or cs i 0) (low : c < length got) where
+module _ (got : List Bool) (cs : List ℕ) (i : ℕ) (line heard : List ℕ) (g l c : ℕ) (so : Reading got cs i line heard g l)
+    (in' : i < length cs) (is : c ≡ get_or cs i 0) (low : c < length got) where
   one_more : (s : List Bool) → marked s (take (i + 1) cs) ≡ marked s (take i cs) ++ kept_if (has s c) c []
   one_more s =
       ap (marked s) (take_more cs i 0 in' ∙ ap (λ x. take i cs ++ x ∷ []) (sym is)) ∙ marked_push s (take i cs) c
@@ -108,37 +101,39 @@ module _ {S : Type 0} (K : Kind S) (syms : List S) (got : List Bool) (cs : List 
   less : (s : List Bool) → has s c ≡ false → marked s (take (i + 1) cs) ≡ marked s (take i cs)
   less s e = one_more s ∙ ap (λ b. marked s (take i cs) ++ kept_if b c []) e ∙ append_none (marked s (take i cs))
 
-  pub reading_got : SumLaws K.zero K.sum → has got c ≡ true → (side' : S) → side' ≡ K.sum side (get_or syms c K.zero) → Reading K syms got cs (i + 1) line side' l
-  reading_got laws e side' z =
+  pub reading_got : has got c ≡ true → Reading got cs (i + 1) line (set heard g c) (g + 1) l
+  reading_got e =
       let off : has (missing got) c ≡ false = has_missing got c low ∙ ap not e in
       record {
         eight = so.eight;
         held = λ d. so.held d ∙ ap (member d) (sym (less (missing got) off));
-        right = z ∙ ap (λ x. K.sum x (get_or syms c K.zero)) so.right ∙ sym (ap (sum_at K.zero K.sum syms) (more got e) ∙ sum_at_push laws syms (marked got (take i cs)) c);
+        long = length-set heard g c ∙ so.long;
+        kept = take_more_set heard g c (omega (arith, so.long, so.few)) ∙ ap (λ xs. xs ++ c ∷ []) so.kept ∙ sym (more got e);
         lost = so.lost ∙ ap length (sym (less (missing got) off));
         few = omega (arith, so.few);
         short = so.short;
       }
 
-  pub reading_lost : has got c ≡ false → (line' : List ℕ) → length line' ≡ length line → Put c line line' → c < 512 → Reading K syms got cs (i + 1) line' side (l + 1)
+  pub reading_lost : has got c ≡ false → (line' : List ℕ) → length line' ≡ length line → Put c line line' → c < 512 → Reading got cs (i + 1) line' heard g (l + 1)
   reading_lost e line' same put narrow =
       let on : has (missing got) c ≡ true = has_missing got c low ∙ ap not e in
       let within : c / 64 < length line = omega (arith, so.eight) in
       record {
         eight = same ∙ so.eight;
         held = λ d. put.within within d ∙ ap₂ ◌||◌ (so.held d) (eqb_turned c d) ∙ sym (ap (member d) (more (missing got) on) ∙ member_push d (marked (missing got) (take i cs)) c);
-        right = so.right ∙ ap (sum_at K.zero K.sum syms) (sym (less got e));
+        long = so.long;
+        kept = so.kept ∙ sym (less got e);
         lost = ap (λ n. n + 1) so.lost ∙ sym (ap length (more (missing got) on) ∙ length-append (marked (missing got) (take i cs)) (c ∷ []));
         few = omega (arith, so.few);
         short = so.short;
       }
 
-pub reading_none : {S : Type 0} (K : Kind S) (syms : List S) (got : List Bool) (cs : List ℕ) → length cs ≤ 512 → (line : List ℕ) → length line ≡ 8 → ((d : ℕ) → holds line d ≡ false)
-    → (side : S) → side ≡ K.zero → Reading K syms got cs 0 line side 0
-reading_none K syms got cs short line eight none side z = record {
+pub reading_none : (got : List Bool) (cs heard : List ℕ) → length cs ≤ 512 → length heard ≡ 512 → (line : List ℕ) → length line ≡ 8 → ((d : ℕ) → holds line d ≡ false) → Reading got cs 0 line heard 0 0
+reading_none got cs heard short long line eight none = record {
   eight = eight;
   held = none;
-  right = z;
+  long = long;
+  kept = refl;
   lost = refl;
   few = omega arith;
   short = short;
@@ -151,9 +146,9 @@ reading_marks n line xs held =
     let l : c < n = omega (arith, length_marks n line) in
     marks_at n line c false l ∙ held c ∙ sym (has_marks n xs c l))
 
-pub reading_moved : {S : Type 0} {K : Kind S} {syms : List S} {got : List Bool} {cs : List ℕ} {i : ℕ} {line line' : List ℕ} {side side' : S} {l l' : ℕ} → line' ≡ line → side' ≡ side → l' ≡ l
-    → Reading K syms got cs i line side l → Reading K syms got cs i line' side' l'
-reading_moved a b e h = rw (a, b, e) h
+pub reading_moved : {got : List Bool} {cs : List ℕ} {i : ℕ} {line line' heard heard' : List ℕ} {g g' l l' : ℕ} → line' ≡ line → heard' ≡ heard → g' ≡ g → l' ≡ l
+    → Reading got cs i line heard g l → Reading got cs i line' heard' g' l'
+reading_moved a b e f h = rw (a, b, e, f) h
 
 -- every row loaded
 module _ {S : Type 0} (K : Kind S) (k : Matrix) (received : List Bool) (syms : List S) where

@@ -1,5 +1,5 @@
 -- A search in memory that is longer than it needs.
-use Rattle.std.proofs.Common.{◌≡◌, ℕ, ◌*◌, ◌<◌, ◌≤◌, Bool, true, false, cond, not, ◌||◌, List, ◌++◌, length, drop, replicate, None, Ok, Err, Result, sym, refl, ap, ◌∙◌, subst, ap₂, arith}
+use Rattle.std.proofs.Common.{◌≡◌, ℕ, ◌*◌, ◌≤◌, Bool, not, ◌||◌, List, ◌++◌, length, drop, replicate, None, Ok, Err, Result, sym, ap, ◌∙◌, subst, ap₂}
 use Rattle.std.proofs.lemmas.List.{drop_at}
 use Rattle.std.proofs.lemmas.Bool.{eq-eqb, le-ltb, cond-false}
 use Rattle.refusals.specs.Refusals.{first_of}
@@ -10,7 +10,7 @@ use Rattle.search.specs.declared.answer.Unfound.{Unfound}
 use Rattle.search.specs.declared.found.Found.{Found}
 use Rattle.search.specs.Answers.{causes}
 use Rattle.search.specs.Found.{wiped}
-use Rattle.search.specs.Searches.{Done, Run, Stand, Left, searched, searched_by, Looked, end}
+use Rattle.search.specs.Searches.{Run, Stand, Left, searched, searched_by, Looked, end}
 use Rattle.search.proofs.Wiped.{wiped_some}
 
 -- no cause refuses the search

@@ -1,5 +1,5 @@
 -- The words of a row and a set: what they share, as marks.
-use Rattle.std.proofs.Common.{◌≡◌, ℕ, ◌<◌, ◌≤◌, Bool, false, ◌&&◌, List, length, Option, sym, ap, ◌∙◌, ap₂, ⊎_elim}
+use Rattle.std.proofs.Common.{◌≡◌, ℕ, ◌<◌, ◌≤◌, Bool, false, ◌&&◌, List, length, Option, sym, ap, ◌∙◌, ⊎_elim}
 use Rattle.std.proofs.lemmas.Bool.{cases_lt, and_right}
 use Rattle.bits.specs.Sets.{holds, ands, Least}
 use Rattle.bits.proofs.Found.{least_like}

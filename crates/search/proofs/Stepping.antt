@@ -1,6 +1,6 @@
 -- One step, and steps to the end.
-use Rattle.std.proofs.Common.{◌≡◌, ℕ, suc, ◌+◌, ◌-◌, ◌<◌, ◌≤◌, Bool, true, false, not, eqb, List, [], ◌∷◌, map, length, is_some, Some, None, Option, sym, refl, ap, ◌∙◌, subst, arith}
-use Rattle.std.proofs.lemmas.Bool.{both_ways, true≢false, ne_eqb}
+use Rattle.std.proofs.Common.{◌≡◌, ℕ, suc, ◌+◌, ◌-◌, Bool, true, false, not, eqb, List, [], ◌∷◌, map, length, is_some, Some, None, Option, sym, refl, ap, ◌∙◌, subst, arith}
+use Rattle.std.proofs.lemmas.Bool.{both_ways, true≢false, false≢true, ne_eqb}
 use Rattle.symbols.specs.Kinds.{Kind}
 use Rattle.method.specs.Sets.{has, count, lowest}
 use Rattle.method.specs.Method.{State, Choice, ready, only_column, row_of, unused, spend, named, step, steps, step_if, step_at, settle, settle_at, holder}
@@ -9,7 +9,7 @@ use Rattle.method.proofs.Counts.{count_clear, none_count, count_le}
 use Rattle.method.proofs.Marks.{lowest_some, lowest_none}
 use Rattle.method.proofs.Loop.{steps_done}
 use Rattle.search.specs.declared.work.Work.{Work}
-use Rattle.search.specs.Steps.{Going, Moved, Ended, asked, asked_at, settled}
+use Rattle.search.specs.Steps.{Going, Moved, Ended}
 use Rattle.search.specs.View.{with_policy}
 
 -- a search that peels, of its own width
@@ -38,28 +38,20 @@ module _ {S P : Type 0} (K : Kind S) (choice : Choice P) (x : State S P) (c : �
   step_name p row asked =
       ap (λ b. step_if K choice (not b) x) going ∙ ap (λ o. step_at K choice o x) row ∙ ap (λ (o : Option ℕ × P). named o.0 o.1 x) (sym asked)
 
--- a column named is active
+-- the lowest active column tells whether there is one
+pub none_active : (a : List Bool) (o : Option ℕ) → o ≡ lowest (λ b. b) a → is_some o ≡ false → count a ≡ 0
+none_active a None e f = none_count a (lowest_none (λ b. b) false refl a (sym e))
+none_active a (Some c) e f = absurd (true≢false f)
+
+-- a column named is active, and one is named where there is an active one
 pub named_active : {P : Type 0} (choice : Choice P) → Naming choice → (p p' : P) (a u : List Bool) (c : ℕ) → (Some c, p') ≡ choice p a u → has a c ≡ true
 named_active choice law p p' a u c asked = subst (Names a) (sym (ap (λ o. o.0) asked)) (law p a u)
 
-some_none : (c : ℕ) → ◌≡◌ {A = Option ℕ} (Some c) None → ⊥
-some_none c e = true≢false (ap is_some e)
-
--- what is named where the policy is asked only with a column active
-pub asked_some : {P : Type 0} (choice : Choice P) (p p' : P) (a u : List Bool) (c : ℕ) → (Some c, p') ≡ asked choice p a u → (Some c, p') ≡ choice p a u
-asked_some {P} choice p p' a u c = go (lowest (λ b. b) a)
-  where
-    go : (o : Option ℕ) → (Some c, p') ≡ asked_at choice p a u o → (Some c, p') ≡ choice p a u
-    go None e = absurd (some_none c (ap (λ (x : Option ℕ × P). x.0) e))
-    go (Some d) e = e
-
-pub asked_none : {P : Type 0} (choice : Choice P) → Naming choice → (p p' : P) (a u : List Bool) → ◌≡◌ {A = Option ℕ × P} (None, p') (asked choice p a u) → (p' ≡ p) × (count a ≡ 0)
-asked_none {P} choice law p p' a u = go (lowest (λ b. b) a) refl
-  where
-    go : (o : Option ℕ) → lowest (λ b. b) a ≡ o → ◌≡◌ {A = Option ℕ × P} (None, p') (asked_at choice p a u o) → (p' ≡ p) × (count a ≡ 0)
-    go None l e = (ap (λ (x : Option ℕ × P). x.1) e, none_count a (lowest_none (λ b. b) false refl a l))
-    go (Some c) l e =
-        absurd (both_ways (has a c) (subst (Names a) (sym (ap (λ (x : Option ℕ × P). x.0) e)) (law p a u) c) (lowest_some (λ b. b) false a c l).0)
+pub never_none : {P : Type 0} (choice : Choice P) → Naming choice → (p p' : P) (a u : List Bool) (o : Option ℕ) → o ≡ lowest (λ b. b) a → is_some o ≡ true
+    → ◌≡◌ {A = Option ℕ × P} (None, p') (choice p a u) → ⊥
+never_none choice law p p' a u None e f asked = false≢true f
+never_none choice law p p' a u (Some c) e f asked =
+    both_ways (has a c) (subst (Names a) (sym (ap (λ o. o.0) asked)) (law p a u) c) (lowest_some (λ b. b) false a c (sym e)).0
 
 module _ {S P : Type 0} (K : Kind S) (choice : Choice P) (x y z : State S P) where
   -- so many steps from z, with k to spare, as from a state on the way

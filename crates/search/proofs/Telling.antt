@@ -1,14 +1,14 @@
 -- What a whole search leaves, and what its answer tells.
-use Rattle.std.proofs.Common.{◌≡◌, ℕ, ◌*◌, ◌<◌, ◌≤◌, min, Bool, true, false, cond, not, eqb, ◌↔◌, List, [], ◌∷◌, ◌++◌, length, get_or, take, drop, replicate, is_ok, IsErrAnd, Some, None, Ok, Err, Option, Result, sym, refl, ap, ◌∙◌, subst, ap₂, arith}
+use Rattle.std.proofs.Common.{◌≡◌, ℕ, ◌<◌, ◌≤◌, Bool, true, false, cond, not, eqb, ◌↔◌, List, [], ◌∷◌, ◌++◌, length, get_or, drop, replicate, is_ok, IsErrAnd, Some, None, Ok, Err, Option, Result, sym, refl, ap, ◌∙◌, ap₂, arith}
 use Rattle.std.proofs.lemmas.List.{ext_get_or, get_or-take, length-take-le}
 use Rattle.std.proofs.lemmas.Bool.{true≢false, false≢true, eqb-true}
 use Rattle.refusals.specs.Refusals.{first_of}
 use Rattle.symbols.specs.Kinds.{Kind, Laws}
 use Rattle.codes.specs.Matrix.{Matrix, Lawful, height}
-use Rattle.method.specs.Sets.{has, table, lowest}
-use Rattle.method.specs.Method.{Choice, Row, Outcome, none, one, several, missing, row_for, filled, clash, answer, answer_at, method, final}
+use Rattle.method.specs.Sets.{has, lowest}
+use Rattle.method.specs.Method.{Choice, Outcome, none, one, several, missing, row_for, filled, clash, answer, answer_at, method}
 use Rattle.method.specs.Choices.{Naming}
-use Rattle.method.specs.Fillings.{Agreeing, No, Only, One, Two, Exactly, pivots_of}
+use Rattle.method.specs.Fillings.{Agreeing, No, Exactly, pivots_of}
 use Rattle.method.specs.Stopping.{Stopping}
 use Rattle.method.proofs.Marks.{get_or_table, length_table}
 use Rattle.method.proofs.Tells.{tells_exactly}
@@ -19,7 +19,7 @@ use Rattle.search.specs.declared.answer.Unfound.TheVariants.{OtherWidth}
 use Rattle.search.specs.declared.found.Found.{Found}
 use Rattle.search.specs.Answers.{told, causes}
 use Rattle.search.specs.Found.{symbol_at, wiped}
-use Rattle.search.specs.Searches.{marks_in, Done, done, filled_by, outcome, end, searched, searched_by, Looked, read_out, Tells}
+use Rattle.search.specs.Searches.{marks_in, done, filled_by, outcome, end, searched, searched_by, Looked, read_out, Tells}
 
 ok_err : {A B : Type 0} (a : A) (b : B) → ◌≡◌ {A = Result A B} (Ok a) (Err b) → ⊥
 ok_err a b e = true≢false (ap is_ok e)

@@ -2,10 +2,9 @@
 --
 --   meaning       the number and the values of each refusal
 --   report_of     the counts of a search's work
---   against       why a search gives no codeword: an unused row clashes, or else a pivot is free
 --   told          what the method's answer tells
 --   causes        the causes that refuse a search before it begins, in their order
-use Rattle.std.specs.Prelude.{ℕ, ◌*◌, Bool, cond, not, ◌||◌, List, [], ◌∷◌, Some, None, Ok, Err, Option, Result, ◌==◌, nat_lt}
+use Rattle.std.specs.Prelude.{ℕ, ◌*◌, Bool, not, ◌||◌, List, [], ◌∷◌, Ok, Err, Result, ◌==◌, nat_lt}
 use Rattle.refusals.specs.Refusals.{Refusal, refusal, Cause, if_so}
 use Rattle.codes.specs.Matrix.{Matrix, height}
 use Rattle.method.specs.Method.{Outcome, none, one, several}
@@ -21,10 +20,6 @@ meaning (Several r k) = refusal 14 (r.pivots ∷ r.additions ∷ k ∷ [])
 
 abbrev pub report_of : ℕ → ℕ → Report
 report_of p a = record { pivots = p; additions = a }
-
--- by whether a row clashes, and by the number of free pivots
-abbrev pub against : Bool → (pivots additions free : ℕ) → Option Unfound
-against clash p a f = cond clash (Some (NoCodeword (report_of p a))) (cond (nat_lt 0 f) (Some (Several (report_of p a) f)) None)
 
 abbrev pub told : {S : Type 0} → Outcome S → Result Report Unfound
 told (none p a) = Err (NoCodeword (report_of p a))

@@ -7,7 +7,6 @@
 --   Ready         the lowest ready row, with its one active column; none where no row is ready
 --   Lowered       the tally of rows of which some have one active column fewer
 --   Moved, Ended  one step further; nothing left to do
---   asked         what a policy names, asked only where a column is active, and its next state
 --   settled       a state with each of its pivots settled
 --   Bounded       what the counts of a search come to at most
 use Rattle.std.specs.Prelude.{◌≡◌, ℕ, suc, ◌+◌, ◌*◌, ◌<◌, ◌≤◌, Bool, true, cond, ◌&&◌, List, map, length, Some, None, Option, ◌==◌, slice_index}
@@ -64,13 +63,6 @@ pub record Moved {S P : Type 0} (K : Kind S) (choice : Choice P) (x y : State S 
 pub record Ended {S P : Type 0} (x y : State S P) : Type 0 where
   pub same : y ≡ x
   pub idle : count x.active ≡ 0
-
-abbrev pub asked_at : {P : Type 0} → Choice P → P → List Bool → List Bool → Option ℕ → Option ℕ × P
-asked_at choice p active unused None = (None, p)
-asked_at choice p active unused (Some c) = choice p active unused
-
-abbrev pub asked : {P : Type 0} → Choice P → P → List Bool → List Bool → Option ℕ × P
-asked choice p active unused = asked_at choice p active unused (lowest (λ b. b) active)
 
 abbrev pub settled : {S P : Type 0} → Kind S → State S P → State S P
 settled K s = settle K s.pivots s

@@ -1,11 +1,9 @@
 // Loading: each row's missing columns and the sum of its received symbols, and what is kept beside the rows.
-ghost use Rattle.std.specs.Prelude.{◌≡◌, ℕ, ◌*◌, ◌<◌, ◌≤◌, false, length, take, slice_index, slice_index_or};
-ghost use Rattle.bits.specs.Sets.{holds};
+ghost use Rattle.std.specs.Prelude.{◌≡◌, ℕ, ◌*◌, ◌<◌, ◌≤◌, length, take, slice_index};
 ghost use Rattle.codes.specs.Matrix.{height, weight, row_at};
 ghost use Rattle.method.specs.Method.{missing, start};
 ghost use Rattle.policies.specs.Shown.{shown};
 ghost use Rattle.search.specs.Loads.{Read, Loaded, singles, Begun};
-ghost use Rattle.search.specs.Rows.{owns, Noted, Owned, Kept};
 ghost use Rattle.search.specs.Searches.{marks_in};
 ghost use Rattle.search.specs.Steps.{Going};
 ghost use Rattle.search.specs.View.{bare};
@@ -16,7 +14,7 @@ use crate::uses::Uses;
 use crate::work::Work;
 use codes::Code;
 use policies::Columns;
-use symbols::Symbol;
+use symbols::{Symbol, sum_at};
 
 // Column i of row r.
 fn column_at<C: Code>(code: &C, r: usize, i: usize) -> usize
@@ -31,44 +29,31 @@ fn column_at<C: Code>(code: &C, r: usize, i: usize) -> usize
     }
 }
 
-// Adds the table's symbol at a column.
-fn hear<S: Symbol>(side: &mut S, table: &[S], c: usize)
-    requires { c < length table.now }
-    ensures { side.new ≡ S.Symbol.kind.sum side.old (slice_index_or table.now c S.Symbol.kind.zero) }
-{
-    side.add(&table[c]);
-}
-
-// Reads row r: its missing columns as a set, the sum of its received symbols, and how many columns are missing. The row
-// is kept for each of these columns.
+// Reads row r: its missing columns as a set, the sum of its received symbols, and how many columns are missing.
 fn read_row<S: Symbol, C: Code>(
     code: &C,
     table: &[S],
     received: &[bool; 512],
-    owners: &mut [u64],
+    heard: &mut [u16; 512],
     r: usize,
 ) -> (bits::Set, S, u16)
-    requires row { r < height (C.Rows.matrix code.now) }
-    requires wide { length table.now ≡ (C.Rows.matrix code.now).width }
-    requires long { length owners.old ≡ 2048 }
-    requires clear { (c : ℕ) → owns owners.old c r ≡ false }
-    ensures read { Read S.Symbol.kind (C.Rows.matrix code.now) received.now table.now r result.0 result.1 result.2 }
-    ensures noted { Noted owners.old owners.new r result.0 }
+    requires { r < height (C.Rows.matrix code.now) }
+    ensures { Read S.Symbol.kind (C.Rows.matrix code.now) received.now table.now r result.0 result.1 result.2 }
 {
     let mut line = [0; 8];
-    let mut side = S::zero();
+    let mut got = 0;
     let mut lost = 0;
     for i in 0..code.weight(r) {
         let c = column_at(code, r, i);
         if received[c] {
-            hear(&mut side, table, c);
+            heard[got] = c as u16;
+            got += 1;
         } else {
             bits::put(&mut line, c);
-            bits::put(owners, 256 * c + r);
             lost += 1;
         }
     }
-    (line, side, lost)
+    (line, sum_at(table, &heard[0..got]), lost)
 }
 
 // Loads every row, and counts the missing columns of each.
@@ -76,21 +61,17 @@ fn load_rows<S: Symbol, C: Code>(
     code: &C,
     table: &[S],
     received: &[bool; 512],
-    owners: &mut [u64],
     words: &mut [u64],
     sides: &mut [S],
 ) -> [u16; 256]
-    requires wide { length table.now ≡ (C.Rows.matrix code.now).width }
     requires high { length sides.old ≡ height (C.Rows.matrix code.now) }
     requires within { length words.old ≡ 8 * length sides.old }
-    requires long { length owners.old ≡ 2048 }
-    requires clear { (k : ℕ) → holds owners.old k ≡ false }
-    ensures loaded { Loaded S.Symbol.kind (C.Rows.matrix code.now) received.now table.now words.new sides.new result (length sides.old) }
-    ensures owned { Owned owners.new words.new (length sides.old) }
+    ensures { Loaded S.Symbol.kind (C.Rows.matrix code.now) received.now table.now words.new sides.new result (length sides.old) }
 {
+    let mut heard = [0; 512];
     let mut counts = [0; 256];
     for r in 0..sides.len() {
-        let (line, side, lost) = read_row(code, table, received, owners, r);
+        let (line, side, lost) = read_row(code, table, received, &mut heard, r);
         bits::put_line(words, r, &line);
         sides[r] = side;
         counts[r] = lost;
@@ -158,19 +139,15 @@ pub(crate) fn load<S: Symbol, C: Code>(
     code: &C,
     table: &[S],
     received: &[bool; 512],
-    owners: &mut [u64],
     words: &mut [u64],
     sides: &mut [S],
 ) -> Work
     requires wide { length table.now ≡ (C.Rows.matrix code.now).width }
     requires high { length sides.old ≡ height (C.Rows.matrix code.now) }
     requires within { length words.old ≡ 8 * length sides.old }
-    requires long { length owners.old ≡ 2048 }
-    requires clear { (k : ℕ) → holds owners.old k ≡ false }
     ensures state { bare S.Symbol.kind words.new sides.new result ≡ start S.Symbol.kind (C.Rows.matrix code.now) (marks_in (C.Rows.matrix code.now) received.now) table.now tt }
     ensures going { Going S.Symbol.kind (C.Rows.matrix code.now).width words.new sides.new result }
-    ensures kept { Kept owners.new words.new (length sides.new) (shown result.active) }
 {
-    let counts = load_rows(code, table, received, owners, words, sides);
+    let counts = load_rows(code, table, received, words, sides);
     begin(table.len(), sides.len(), received, counts)
 }

@@ -1,15 +1,15 @@
 // Peeling: each row with just one active column is used for it; where there is none, the policy names a pivot.
-ghost use Rattle.std.specs.Prelude.{◌≡◌, ℕ, ◌+◌, ◌-◌, ◌<◌, ◌≤◌, true, false, ◌&&◌, [], ◌∷◌, ◌++◌, map, length, Some, MatchBool, ◌==◌, slice_index, slice_set};
+ghost use Rattle.std.specs.Prelude.{◌≡◌, ℕ, ◌+◌, ◌-◌, ◌<◌, ◌≤◌, true, ◌&&◌, [], ◌∷◌, ◌++◌, map, length, Some, MatchBool, ◌==◌, slice_index, slice_set};
 ghost use Rattle.std.specs.List.{range_with_len};
 ghost use Rattle.bits.specs.Sets.{row};
 ghost use Rattle.method.specs.Sets.{has, meet, lowest};
 ghost use Rattle.method.specs.Method.{spend, named, steps};
 ghost use Rattle.policies.specs.Shown.{marks_of, shown};
-ghost use Rattle.search.specs.Rows.{holding, Kept};
-ghost use Rattle.search.specs.Steps.{Sized, Room, Going, Ready, Lowered, Moved, Ended, asked};
+ghost use Rattle.search.specs.Rows.{holding};
+ghost use Rattle.search.specs.Steps.{Sized, Room, Going, Ready, Lowered, Moved, Ended};
 ghost use Rattle.search.specs.View.{listed, lines, view, bare};
 
-use crate::rows::{add_to_each, kept_for, next_in};
+use crate::rows::{add_to_each, holders};
 use crate::tally::Tally;
 use crate::trail::Trail;
 use crate::work::Work;
@@ -51,30 +51,11 @@ impl Tally {
         requires some { (q : ℕ) → has (shown held.now) q ≡ true → 0 < slice_index self.old.counts q }
         ensures { Lowered (shown held.now) (shown unused.now) self.old self.new }
     {
-        let mut low = 0;
-        while let Some(q) = next_in(held, low) {
+        let mut left = *held;
+        while let Some(q) = left.least() {
+            left.leave(q);
             self.lower_one(q, unused);
-            low = q + 1;
         }
-    }
-}
-
-impl Work {
-    // Row r is used for column c, and was added to k rows.
-    fn spend(&mut self, r: usize, c: usize, k: u32)
-        requires row { r < 256 }
-        requires column { c < 512 }
-        requires room { (self.old.additions ≤ 1000000000) × (k ≤ 512) }
-        ensures active { shown self.new.active ≡ slice_set (shown self.old.active) c false }
-        ensures unused { shown self.new.uses.unused ≡ slice_set (shown self.old.uses.unused) r false }
-        ensures columns { self.new.uses.columns ≡ slice_set self.old.uses.columns r c }
-        ensures additions { self.new.additions ≡ self.old.additions + k }
-        ensures same { (self.new.tally ≡ self.old.tally) × (self.new.pivots ≡ self.old.pivots) × (self.new.free ≡ self.old.free) }
-    {
-        self.active.leave(c);
-        self.uses.unused.leave(r);
-        self.uses.columns[r] = c as u16;
-        self.additions += k;
     }
 }
 
@@ -116,56 +97,37 @@ pub(crate) fn use_row<S: Symbol>(
 {
     let mut others = *held;
     others.leave(r);
-    let k = add_to_each(words, sides, r, &others);
-    work.spend(r, c, k);
+    work.active.leave(c);
+    work.uses.unused.leave(r);
+    work.uses.columns[r] = c as u16;
+    work.additions += add_to_each(words, sides, r, &others);
 }
 
 // The row r, ready for column c, is used for it.
-fn peel_row<S: Symbol>(
-    words: &mut [u64],
-    sides: &mut [S],
-    work: &mut Work,
-    owners: &[u64],
-    r: usize,
-    c: usize,
-)
+fn peel_row<S: Symbol>(words: &mut [u64], sides: &mut [S], work: &mut Work, r: usize, c: usize)
     requires going { Going S.Symbol.kind work.old.active.width words.old sides.old work.old }
-    requires kept { Kept owners.now words.old (length sides.old) (shown work.old.active) }
     requires ready { Ready S.Symbol.kind (shown work.old.active) (lines S.Symbol.kind work.old.active.width words.old sides.old work.old.uses) (Some (r, c)) }
     ensures going { Going S.Symbol.kind work.old.active.width words.new sides.new work.new }
-    ensures kept { Kept owners.now words.new (length sides.new) (shown work.new.active) }
     ensures state { bare S.Symbol.kind words.new sides.new work.new ≡ spend S.Symbol.kind r c (bare S.Symbol.kind words.old sides.old work.old) }
 {
-    let held = kept_for(owners, sides.len(), c);
+    let held = holders(words, sides.len(), c);
     use_row(words, sides, work, &held, r, c);
     let unused = work.uses.unused;
     work.tally.lower(&held, &unused);
 }
 
 // Column c becomes a pivot.
-fn put_pivot<S: Symbol>(words: &[u64], sides: &[S], work: &mut Work, owners: &[u64], c: usize)
+fn put_pivot<S: Symbol>(words: &[u64], sides: &[S], work: &mut Work, c: usize)
     requires going { Going S.Symbol.kind work.old.active.width words.now sides.now work.old }
-    requires kept { Kept owners.now words.now (length sides.now) (shown work.old.active) }
     requires active { has (shown work.old.active) c ≡ true }
     ensures going { Going S.Symbol.kind work.old.active.width words.now sides.now work.new }
-    ensures kept { Kept owners.now words.now (length sides.now) (shown work.new.active) }
     ensures state { bare S.Symbol.kind words.now sides.now work.new ≡ named (Some c) tt (bare S.Symbol.kind words.now sides.now work.old) }
 {
-    let held = kept_for(owners, sides.len(), c);
+    let held = holders(words, sides.len(), c);
     let unused = work.uses.unused;
     work.active.leave(c);
     work.tally.lower(&held, &unused);
     work.pivots.push(c);
-}
-
-// The pivot that the policy names; where no column is active it is not asked.
-fn ask<C: Code, P: Policy>(work: &Work, code: &C, policy: &mut P) -> Option<usize>
-    ensures { (result, policy.new) ≡ asked (P.Policy.choice (C.Rows.matrix code.now)) policy.old (shown work.now.active) (shown work.now.uses.unused) }
-{
-    match work.active.least() {
-        Some(_) => policy.name(code, &work.active, &work.uses.unused),
-        None => None,
-    }
 }
 
 // One step; false where no column is active.
@@ -173,28 +135,30 @@ fn advance<S: Symbol, C: Code, P: Policy>(
     words: &mut [u64],
     sides: &mut [S],
     work: &mut Work,
-    owners: &[u64],
     code: &C,
     policy: &mut P,
 ) -> bool
-    requires going { Going S.Symbol.kind (C.Rows.matrix code.now).width words.old sides.old work.old }
-    requires kept { Kept owners.now words.old (length sides.old) (shown work.old.active) }
+    requires { Going S.Symbol.kind (C.Rows.matrix code.now).width words.old sides.old work.old }
     ensures going { Going S.Symbol.kind (C.Rows.matrix code.now).width words.new sides.new work.new }
-    ensures kept { Kept owners.now words.new (length sides.new) (shown work.new.active) }
     ensures stepped { MatchBool result (Moved S.Symbol.kind (P.Policy.choice (C.Rows.matrix code.now)) (view S.Symbol.kind words.old sides.old work.old policy.old) (view S.Symbol.kind words.new sides.new work.new policy.new)) (Ended (view S.Symbol.kind words.old sides.old work.old policy.old) (view S.Symbol.kind words.new sides.new work.new policy.new)) }
 {
     match next_ready(words, sides, work) {
         Some((r, c)) => {
-            peel_row(words, sides, work, owners, r, c);
+            peel_row(words, sides, work, r, c);
             true
         }
-        None => match ask(work, code, policy) {
-            Some(c) => {
-                put_pivot(words, sides, work, owners, c);
-                true
+        None => {
+            if work.active.least().is_none() {
+                return false;
             }
-            None => false,
-        },
+            match policy.name(code, &work.active, &work.uses.unused) {
+                Some(c) => {
+                    put_pivot(words, sides, work, c);
+                    true
+                }
+                None => false,
+            }
+        }
     }
 }
 
@@ -203,14 +167,12 @@ pub(crate) fn peel<S: Symbol, C: Code, P: Policy>(
     words: &mut [u64],
     sides: &mut [S],
     work: &mut Work,
-    owners: &[u64],
     code: &C,
     policy: &mut P,
 )
-    requires going { Going S.Symbol.kind (C.Rows.matrix code.now).width words.old sides.old work.old }
-    requires kept { Kept owners.now words.old (length sides.old) (shown work.old.active) }
+    requires { Going S.Symbol.kind (C.Rows.matrix code.now).width words.old sides.old work.old }
     ensures going { Going S.Symbol.kind (C.Rows.matrix code.now).width words.new sides.new work.new }
     ensures state { view S.Symbol.kind words.new sides.new work.new policy.new ≡ steps S.Symbol.kind (P.Policy.choice (C.Rows.matrix code.now)) (C.Rows.matrix code.now).width (view S.Symbol.kind words.old sides.old work.old policy.old) }
 {
-    while advance(words, sides, work, owners, code, policy) {}
+    while advance(words, sides, work, code, policy) {}
 }

@@ -1,26 +1,16 @@
 // Settling: each pivot in turn takes the lowest unused row that holds it, or is free.
 ghost use Rattle.std.specs.Prelude.{◌≡◌, ℕ, ◌+◌, ◌*◌, ◌<◌, ◌≤◌, length};
-ghost use Rattle.method.specs.Sets.{meet, lowest};
+ghost use Rattle.method.specs.Sets.{lowest};
 ghost use Rattle.method.specs.Method.{holder, settle_at, steps};
-ghost use Rattle.policies.specs.Shown.{shown};
-ghost use Rattle.search.specs.Rows.{Kept};
 ghost use Rattle.search.specs.Steps.{Sized, Room, Going, Bounded, settled};
 ghost use Rattle.search.specs.View.{lines, view, bare};
 
 use crate::peel::{peel, use_row};
 use crate::rows::holders;
-use crate::uses::Uses;
 use crate::work::Work;
 use codes::Code;
-use policies::{Columns, Policy};
+use policies::Policy;
 use symbols::Symbol;
-
-// The lowest unused row of a set.
-fn lowest_unused(held: &Columns, uses: &Uses) -> Option<usize>
-    ensures { result ≡ lowest (λ b. b) (meet (shown held.now) (shown uses.now.unused)) }
-{
-    held.both(&uses.unused).least()
-}
 
 // The pivot c takes its row, or is free.
 fn settle_one<S: Symbol>(words: &mut [u64], sides: &mut [S], work: &mut Work, c: usize)
@@ -33,7 +23,7 @@ fn settle_one<S: Symbol>(words: &mut [u64], sides: &mut [S], work: &mut Work, c:
     ensures state { bare S.Symbol.kind words.new sides.new work.new ≡ settle_at S.Symbol.kind c (lowest (holder c) (lines S.Symbol.kind work.old.active.width words.old sides.old work.old.uses)) (bare S.Symbol.kind words.old sides.old work.old) }
 {
     let held = holders(words, sides.len(), c);
-    match lowest_unused(&held, &work.uses) {
+    match held.both(&work.uses.unused).least() {
         Some(r) => use_row(words, sides, work, &held, r, c),
         None => work.free.push(c),
     }
@@ -58,16 +48,14 @@ pub(crate) fn eliminate<S: Symbol, C: Code, P: Policy>(
     words: &mut [u64],
     sides: &mut [S],
     work: &mut Work,
-    owners: &[u64],
     code: &C,
     policy: &mut P,
 )
-    requires going { Going S.Symbol.kind (C.Rows.matrix code.now).width words.old sides.old work.old }
-    requires kept { Kept owners.now words.old (length sides.old) (shown work.old.active) }
+    requires { Going S.Symbol.kind (C.Rows.matrix code.now).width words.old sides.old work.old }
     ensures sized { Sized (C.Rows.matrix code.now).width words.new sides.new work.new }
     ensures bounded { Bounded work.new }
     ensures state { view S.Symbol.kind words.new sides.new work.new policy.new ≡ settled S.Symbol.kind (steps S.Symbol.kind (P.Policy.choice (C.Rows.matrix code.now)) (C.Rows.matrix code.now).width (view S.Symbol.kind words.old sides.old work.old policy.old)) }
 {
-    peel(words, sides, work, owners, code, policy);
+    peel(words, sides, work, code, policy);
     settle_all(words, sides, work);
 }

@@ -2,46 +2,17 @@
 ghost use Rattle.std.specs.Prelude.{◌≡◌, ℕ, ◌*◌, ◌≤◌, length, None};
 ghost use Rattle.refusals.specs.Refusals.{first_of};
 ghost use Rattle.codes.specs.Matrix.{height};
-ghost use Rattle.search.specs.Answers.{causes, report_of, against};
+ghost use Rattle.search.specs.Answers.{causes};
 ghost use Rattle.search.specs.Searches.{Run, Looked, Tells, done, searched, marks_in, read_out};
-ghost use Rattle.search.specs.Steps.{Bounded};
 
 use crate::answer::{Report, Unfound};
 use crate::found::Found;
 use crate::load::load;
 use crate::read::{clashes, places, wipe};
 use crate::settle::eliminate;
-use crate::work::Work;
 use codes::Code;
 use policies::Policy;
 use symbols::Symbol;
-
-impl Work {
-    // What the search counted.
-    fn report(&self) -> Report
-        requires { Bounded self.now }
-        ensures { result ≡ report_of self.now.pivots.len self.now.additions }
-    {
-        Report {
-            pivots: self.pivots.len as u32,
-            additions: self.additions,
-        }
-    }
-
-    // Why it gives no codeword, if so: an unused row clashes, or else a pivot is free.
-    fn against(&self, clash: bool) -> Option<Unfound>
-        requires { Bounded self.now }
-        ensures { result ≡ against clash self.now.pivots.len self.now.additions self.now.free.len }
-    {
-        if clash {
-            return Some(Unfound::NoCodeword(self.report()));
-        }
-        if self.free.len > 0 {
-            return Some(Unfound::Several(self.report(), self.free.len as u32));
-        }
-        None
-    }
-}
 
 // A search in memory of just the size of the code.
 fn run<S: Symbol, C: Code, P: Policy>(
@@ -57,21 +28,25 @@ fn run<S: Symbol, C: Code, P: Policy>(
     requires within { length words.old ≡ 8 * length sides.old }
     ensures { Run S.Symbol.kind P.Policy.choice (C.Rows.matrix code.now) received.now table.now policy.old policy.new words.new sides.new result }
 {
-    let mut owners = [0; 2048];
-    let mut work = load(code, table, received, &mut owners, words, sides);
-    eliminate(words, sides, &mut work, &owners, code, policy);
+    let mut work = load(code, table, received, words, sides);
+    eliminate(words, sides, &mut work, code, policy);
     bits::wipe(words);
-    let clash = clashes(sides, &work.uses);
-    match work.against(clash) {
-        Some(why) => {
-            wipe(sides, sides.len());
-            Err(why)
-        }
-        None => Ok(Found {
-            report: work.report(),
-            rows: places(&work.uses, sides.len()),
-        }),
+    let report = Report {
+        pivots: work.pivots.len as u32,
+        additions: work.additions,
+    };
+    if clashes(sides, &work.uses) {
+        wipe(sides, sides.len());
+        return Err(Unfound::NoCodeword(report));
     }
+    if work.free.len > 0 {
+        wipe(sides, sides.len());
+        return Err(Unfound::Several(report, work.free.len as u32));
+    }
+    Ok(Found {
+        report,
+        rows: places(&work.uses, sides.len()),
+    })
 }
 
 // Searches the codewords of a code that agree with a table at the places received, with a policy, in working memory of

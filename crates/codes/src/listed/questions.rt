@@ -67,14 +67,6 @@ impl<'a> Rows for Listed<'a> {
             None
         }
     }
-
-    fn weighed(&self, r: usize) -> (Shape, usize) {
-        (self.shape(), self.weight(r))
-    }
-
-    fn placed(&self, r: usize, i: usize) -> (Shape, Option<usize>) {
-        (self.shape(), self.column(r, i))
-    }
 }
 
 impl<'a> Code for Listed<'a> {

@@ -32,22 +32,6 @@ impl<'a> Rows for BaseCode<'a> {
             self.circulant.column(r, i)
         }
     }
-
-    fn weighed(&self, r: usize) -> (Shape, usize) {
-        if self.is_listed {
-            self.listed.weighed(r)
-        } else {
-            self.circulant.weighed(r)
-        }
-    }
-
-    fn placed(&self, r: usize, i: usize) -> (Shape, Option<usize>) {
-        if self.is_listed {
-            self.listed.placed(r, i)
-        } else {
-            self.circulant.placed(r, i)
-        }
-    }
 }
 
 impl<'a> Code for BaseCode<'a> {

@@ -81,14 +81,6 @@ impl<'a> Rows for QuasiCyclic<'a> {
     fn column(&self, r: usize, i: usize) -> Option<usize> {
         pick(self.line(r), self.z, r, i)
     }
-
-    fn weighed(&self, r: usize) -> (Shape, usize) {
-        (self.shape(), self.weight(r))
-    }
-
-    fn placed(&self, r: usize, i: usize) -> (Shape, Option<usize>) {
-        (self.shape(), self.column(r, i))
-    }
 }
 
 impl<'a> Code for QuasiCyclic<'a> {

@@ -1,4 +1,4 @@
-use Rattle.std.proofs.Common.{◌≡◌, ◌<◌, arith}
+use Rattle.std.proofs.Common.{◌<◌, arith}
 use Rattle.std.proofs.ByRecursion.{All-get_or}
 use Rattle.codes.specs.Matrix.{row_at}
 use Rattle.search.proofs.Loading.{lawful_row, column_is, column_some}

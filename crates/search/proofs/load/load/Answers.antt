@@ -1,9 +1,6 @@
-use Rattle.std.proofs.Common.{◌≡◌, ◌*◌, ◌≤◌, length, sym, ap, ◌∙◌, subst, arith}
-use Rattle.policies.specs.Shown.{shown}
+use Rattle.std.proofs.Common.{◌*◌, ◌≤◌, length, sym, ◌∙◌, subst, arith}
 use Rattle.search.specs.Loads.{Loaded, Begun}
-use Rattle.search.specs.Rows.{Owned}
 use Rattle.search.proofs.Beginning.{begun_state, begun_going}
-use Rattle.search.proofs.Keeping.{owned_kept}
 use Rattle.search.proofs.load.load.Goals as goal
 
 pub returns : goal.returns
@@ -19,10 +16,9 @@ returns g c =
     let same = c.load_rows-counts.auto.sides in
     let wide : k.width ≤ length received = omega (arith, ok.few_columns) in
     let within : 8 * length ss ≤ length ws = omega (arith, c.requires.within, same, c.load_rows-counts.auto.words) in
-    let loaded = subst (Loaded K k received table ws ss counts) (sym same) c.load_rows-counts.ensures.loaded in
+    let loaded = subst (Loaded K k received table ws ss counts) (sym same) c.load_rows-counts.ensures in
     let begun = subst (λ n. Begun n (length ss) received counts c.begin.result) c.requires.wide c.begin.ensures in
     record {
       state = begun_state K k ok received table ws ss counts c.begin.result wide (same ∙ c.requires.high) within loaded begun;
       going = begun_going K k ok received table ws ss counts c.begin.result wide (same ∙ c.requires.high) within loaded begun;
-      kept = owned_kept (shown c.begin.result.active) (subst (Owned c.load_rows-counts.new.owners ws) (sym same) c.load_rows-counts.ensures.owned) (c.load_rows-counts.auto.owners ∙ c.requires.long);
     }

@@ -1,5 +1,3 @@
-use Rattle.std.proofs.Common.{not}
-use Rattle.method.specs.Sets.{has}
 use Rattle.policies.specs.Shown.{shown}
 use Rattle.search.proofs.Built.{Built, lacking}
 use Rattle.search.proofs.load.missing_below.Given as goal

@@ -1,4 +1,4 @@
-use Rattle.std.proofs.Common.{length, ap, ◌∙◌, subst}
+use Rattle.std.proofs.Common.{ap, ◌∙◌, subst}
 use Rattle.bits.specs.Sets.{holds, ands, Least, row}
 use Rattle.bits.proofs.Rows.{length_row}
 use Rattle.search.proofs.Rowsets.{lowest_shared}

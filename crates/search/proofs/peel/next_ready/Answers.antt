@@ -1,4 +1,4 @@
-use Rattle.std.proofs.Common.{length, None, sym, ap, ◌∙◌, subst, arith}
+use Rattle.std.proofs.Common.{None, sym, ap, subst, arith}
 use Rattle.bits.specs.Sets.{row}
 use Rattle.method.specs.Sets.{meet}
 use Rattle.method.specs.Method.{ready, blank}

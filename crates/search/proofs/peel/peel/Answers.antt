@@ -1,4 +1,4 @@
-use Rattle.std.proofs.Common.{refl, ◌∙◌}
+use Rattle.std.proofs.Common.{◌∙◌}
 use Rattle.policies.proofs.Marks.{length_shown}
 use Rattle.search.specs.View.{view}
 use Rattle.search.proofs.Stepping.{steps_again, steps_all}
@@ -11,7 +11,6 @@ loop-preserved g c =
     let h = c.loop-test.ensures in (
       h.going,
       steps_again K choice (view K c.loop.words c.loop.sides c.loop.work c.loop.policy) _ (view K c.args.words.now c.args.sides.now c.args.work.now c.args.policy.now) h.stepped c.loop.invariant.1,
-      h.kept,
     )
 
 pub returns : goal.returns
@@ -22,5 +21,5 @@ returns g c =
     let h = c.loop-test.ensures in
     record {
       going = h.going;
-      state = steps_all K (g.P.Policy.choice k) (view K c.loop.words c.loop.sides c.loop.work c.loop.policy) _ (view K c.args.words.now c.args.sides.now w c.args.policy.now) h.stepped c.loop.invariant.1 k.width (length_shown w.active ∙ c.requires.going.sized.wide);
+      state = steps_all K (g.P.Policy.choice k) (view K c.loop.words c.loop.sides c.loop.work c.loop.policy) _ (view K c.args.words.now c.args.sides.now w c.args.policy.now) h.stepped c.loop.invariant.1 k.width (length_shown w.active ∙ c.requires.sized.wide);
     }

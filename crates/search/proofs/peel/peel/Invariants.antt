@@ -1,8 +1,7 @@
-use Rattle.std.proofs.Common.{◌≡◌, ℕ, ◌+◌, length}
+use Rattle.std.proofs.Common.{◌≡◌, ℕ, ◌+◌}
 use Rattle.method.specs.Sets.{count}
 use Rattle.method.specs.Method.{steps}
 use Rattle.policies.specs.Shown.{shown}
-use Rattle.search.specs.Rows.{Kept}
 use Rattle.search.specs.Steps.{Going}
 use Rattle.search.specs.View.{view}
 use Rattle.search.proofs.peel.peel.Given as goal
@@ -16,7 +15,6 @@ invariant-loop g l =
     Going K k.width l.words l.sides l.work
     × ((j : ℕ) → steps K choice (j + count (shown l.work.active)) (view K l.words l.sides l.work l.policy)
     ≡ steps K choice (j + count (shown l.initial.work.active)) (view K l.initial.words l.initial.sides l.initial.work l.initial.policy))
-    × Kept l.owners l.words (length l.sides) (shown l.work.active)
 
 abbrev pub decreases-loop : goal.decreases-loop
 decreases-loop g l = count (shown l.work.active)

@@ -1,27 +1,15 @@
-use Rattle.std.proofs.Common.{◌≡◌, ℕ, ◌+◌, ◌<◌, ◌≤◌, true, map, length, get_or, sym, refl, ap, ◌∙◌, subst, arith}
+use Rattle.std.proofs.Common.{◌≡◌, ℕ, ◌<◌, length, get_or, sym, ap, ◌∙◌, subst, arith}
 use Rattle.std.specs.List.{AllByRecursion}
-use Rattle.std.proofs.lemmas.List.{get_or-map}
-use Rattle.method.specs.Sets.{has, count}
-use Rattle.method.specs.Method.{unused, use_row, row_of, blank}
+use Rattle.method.specs.Sets.{has}
+use Rattle.method.specs.Method.{unused, use_row, row_of}
 use Rattle.policies.specs.Shown.{shown}
 use Rattle.policies.proofs.Marks.{shown_below}
 use Rattle.search.specs.View.{lines, listed}
 use Rattle.search.specs.Steps.{Lowered}
 use Rattle.search.proofs.Lines.{length_lines, held_width, held_at, unused_at, use_length}
-use Rattle.search.proofs.Keeping.{kept_held, kept_next, holding_stays}
 use Rattle.search.proofs.Rooms.{fewer_active, room_next}
 use Rattle.search.proofs.Tallies.{some_count, length_ready, tallied_used, tallied_moved}
 use Rattle.search.proofs.peel.peel_row.Goals as goal
-
-pub kept_for-held-requires : goal.kept_for-held-requires
-kept_for-held-requires g c =
-    let w = c.args.work.now in
-    record {
-      long = c.requires.kept.long;
-      column = omega (arith, shown_below w.active c.args.c c.requires.ready.is_active, w.active.narrow);
-      few = c.requires.going.sized.few;
-      none = c.requires.kept.none c.args.c;
-    }
 
 pub use_row-requires : goal.use_row-requires
 use_row-requires g c =
@@ -29,7 +17,7 @@ use_row-requires g c =
     let K = g.S.Symbol.kind in
     record {
       sized = c.requires.going.sized;
-      held = c.kept_for-held.ensures ∙ kept_held c.requires.kept c.args.c c.requires.ready.is_active;
+      held = c.holders-held.ensures;
       row = omega (arith, c.requires.ready.within, length_lines K w.active.width c.args.words.now c.args.sides.now w.uses);
       column = shown_below w.active c.args.c c.requires.ready.is_active;
       room = omega (arith, c.requires.going.room.added);
@@ -42,9 +30,8 @@ lower-requires g c =
     let n = w.active.width in
     let ws = c.args.words.now in
     let ss = c.args.sides.now in
-    let held = c.kept_for-held.result in
-    let held_is = c.kept_for-held.ensures ∙ kept_held c.requires.kept c.args.c c.requires.ready.is_active in
-    let wide = held_width held _ (length ss) held_is in
+    let held = c.holders-held.result in
+    let wide = held_width held _ (length ss) c.holders-held.ensures in
     let tally = c.use_row.ensures.same.0 in
     let high = length_lines K n ws ss w.uses in
     let col = shown_below w.active c.args.c c.requires.ready.is_active in
@@ -55,7 +42,7 @@ lower-requires g c =
           let low : q < length ss = omega (arith, shown_below held q h, wide) in
           subst (λ t. 0 < get_or t.counts q 0) (sym tally)
           (some_count K c.requires.going.tallied q c.args.c (omega (arith, high))
-          (sym (held_at K n ws ss w.uses (shown held) c.args.c col held_is q low) ∙ h) c.requires.ready.is_active);
+          (sym (held_at K n ws ss w.uses (shown held) c.args.c col c.holders-held.ensures q low) ∙ h) c.requires.ready.is_active);
     }
 
 pub returns : goal.returns
@@ -69,8 +56,7 @@ returns g c =
     let ws' = c.use_row.new.words in
     let ss' = c.use_row.new.sides in
     let rows = lines K n ws ss w.uses in
-    let held = c.kept_for-held.result in
-    let held_is = c.kept_for-held.ensures ∙ kept_held c.requires.kept c.args.c c.requires.ready.is_active in
+    let held = c.holders-held.result in
     let e = c.use_row.ensures in
     let same = e.same in
     let col = shown_below w.active c.args.c c.requires.ready.is_active in
@@ -91,10 +77,7 @@ returns g c =
         tallied = tallied_moved K rows_are active_is
             (tallied_used K rows (shown w.active) (shown held) (shown w'.uses.unused) c.args.r c.args.c w.tally c.lower.new.self c.requires.going.tallied
             (subst (λ t. Lowered (shown held) (shown w'.uses.unused) t c.lower.new.self) same.0 c.lower.ensures) c.requires.ready
-            (λ q l. held_at K n ws ss w.uses (shown held) c.args.c col held_is q (omega (arith, high))) unuseds);
+            (λ q l. held_at K n ws ss w.uses (shown held) c.args.c col c.holders-held.ensures q (omega (arith, high))) unuseds);
       };
-      kept = kept_next c.args.c c.requires.kept c.use_row.auto.sides active_is
-          (holding_stays K n w'.active.width ws ws' ss ss' w.uses w'.uses (shown w.active) c.args.r c.args.c c.requires.ready rows_are e.sized.wide c.use_row.auto.sides
-          (λ d h. shown_below w.active d h));
       state = e.state;
     }

@@ -1,26 +1,13 @@
-use Rattle.std.proofs.Common.{◌≡◌, ℕ, ◌+◌, ◌<◌, ◌≤◌, true, false, [], ◌∷◌, ◌++◌, map, length, get_or, set, sym, refl, ap, ◌∙◌, subst, arith}
+use Rattle.std.proofs.Common.{◌<◌, false, length, sym, refl, ap, ◌∙◌, subst, arith}
 use Rattle.std.specs.List.{AllByRecursion}
 use Rattle.std.proofs.ByRecursion.{All-push}
-use Rattle.method.specs.Sets.{has, count}
-use Rattle.method.specs.Method.{State}
 use Rattle.policies.specs.Shown.{shown}
 use Rattle.policies.proofs.Marks.{shown_below}
 use Rattle.search.specs.View.{lines, listed}
 use Rattle.search.proofs.Lines.{length_lines, held_width, held_at, unused_at, same_width}
-use Rattle.search.proofs.Keeping.{kept_held, kept_next}
 use Rattle.search.proofs.Rooms.{fewer_active, room_next}
 use Rattle.search.proofs.Tallies.{some_count, length_ready, tallied_next, tallied_moved, part_stays}
 use Rattle.search.proofs.peel.put_pivot.Goals as goal
-
-pub kept_for-held-requires : goal.kept_for-held-requires
-kept_for-held-requires g c =
-    let w = c.args.work.now in
-    record {
-      long = c.requires.kept.long;
-      column = omega (arith, shown_below w.active c.args.c c.requires.active, w.active.narrow);
-      few = c.requires.going.sized.few;
-      none = c.requires.kept.none c.args.c;
-    }
 
 pub lower-requires : goal.lower-requires
 lower-requires g c =
@@ -29,9 +16,8 @@ lower-requires g c =
     let n = w.active.width in
     let ws = c.args.words.now in
     let ss = c.args.sides.now in
-    let held = c.kept_for-held.result in
-    let held_is = c.kept_for-held.ensures ∙ kept_held c.requires.kept c.args.c c.requires.active in
-    let wide = held_width held _ (length ss) held_is in
+    let held = c.holders-held.result in
+    let wide = held_width held _ (length ss) c.holders-held.ensures in
     let high = length_lines K n ws ss w.uses in
     let col = shown_below w.active c.args.c c.requires.active in
     record {
@@ -40,7 +26,7 @@ lower-requires g c =
       some = λ q h.
           let low : q < length ss = omega (arith, shown_below held q h, wide) in
           some_count K c.requires.going.tallied q c.args.c (omega (arith, high))
-          (sym (held_at K n ws ss w.uses (shown held) c.args.c col held_is q low) ∙ h) c.requires.active;
+          (sym (held_at K n ws ss w.uses (shown held) c.args.c col c.holders-held.ensures q low) ∙ h) c.requires.active;
     }
 
 pub push-requires : goal.push-requires
@@ -57,8 +43,7 @@ returns g c =
     let ws = c.args.words.now in
     let ss = c.args.sides.now in
     let rows = lines K n ws ss w.uses in
-    let held = c.kept_for-held.result in
-    let held_is = c.kept_for-held.ensures ∙ kept_held c.requires.kept c.args.c c.requires.active in
+    let held = c.holders-held.result in
     let col = shown_below w.active c.args.c c.requires.active in
     let high = length_lines K n ws ss w.uses in
     let wide = same_width w.active c.leave.new.self c.args.c false c.leave.ensures in
@@ -73,9 +58,8 @@ returns g c =
             refl;
         tallied = tallied_moved K same_rows c.leave.ensures
             (tallied_next K rows rows (shown w.active) (shown held) (shown w.uses.unused) c.args.c w.tally c.lower.new.self c.requires.going.tallied c.lower.ensures
-            c.requires.active refl (λ q l. held_at K n ws ss w.uses (shown held) c.args.c col held_is q (omega (arith, high)))
+            c.requires.active refl (λ q l. held_at K n ws ss w.uses (shown held) c.args.c col c.holders-held.ensures q (omega (arith, high)))
             (λ q l d. part_stays K rows (shown w.active) c.args.c q d) (λ q l. unused_at K n ws ss w.uses q (omega (arith, high))) (λ q l e. refl));
       };
-      kept = kept_next c.args.c c.requires.kept refl c.leave.ensures (λ d q h l. refl);
       state = λ i. record { rows = same_rows i; active = c.leave.ensures i; pivots = c.push.ensures.listed i; free = listed w.free; additions = w.additions; policy = tt };
     }

@@ -1,4 +1,3 @@
-use Rattle.std.proofs.Common.{◌≡◌, ℕ, ◌<◌}
 use Rattle.search.proofs.Wiped.{Wiping}
 use Rattle.search.proofs.read.fill_first.Given as goal
 

@@ -1,23 +1,19 @@
-use Rattle.std.proofs.Common.{refl, arith}
-use Rattle.std.proofs.lemmas.Bool.{le-ltb, and_left}
-use Rattle.policies.proofs.Marks.{holds_zeros}
-use Rattle.search.specs.Rows.{holding, held_below}
-use Rattle.search.proofs.Gathering.{filled_none, filled_more, filled_past, filled_moved, filled_within, filled_shown}
+use Rattle.std.proofs.Common.{sym, ap, ◌∙◌, arith}
+use Rattle.policies.specs.Shown.{shown}
+use Rattle.search.specs.Rows.{holding}
+use Rattle.search.proofs.Built.{built_none, built_skip, built_put, built_all}
 use Rattle.search.proofs.rows.holders.Goals as goal
-use Rattle.search.proofs.rows.holders.Goals.{then-i-m, else-i-m}
+use Rattle.search.proofs.rows.holders.Goals.{then-row_has, else-row_has}
 
-pub loop-i-init : goal.loop-i-init
-loop-i-init c = filled_none (held_below c.args.m c.args.words.now c.args.c) _ refl (holds_zeros 8)
+pub loop-r-init : goal.loop-r-init
+loop-r-init c = built_none c.args.m (holding c.args.words.now c.args.c) (shown c.none-held.result) c.requires c.none-held.ensures
 
-pub loop-i-preserved : goal.loop-i-preserved
-loop-i-preserved c =
-    let t = held_below c.args.m c.args.words.now c.args.c in
-    elim c.if-i-m.branch [
-      | then-i-m w ↦ filled_more t c.loop-i.held c.loop-i.i c.loop-i.invariant c.loop-i-test.true w.holders_from.result w.holders_from.ensures c.if-i-m.held w.held-is
-      | else-i-m w ↦
-          filled_moved w.held-is
-          (filled_past t c.loop-i.held c.loop-i.i c.loop-i.invariant c.loop-i-test.true (λ d l. and_left _ _ (le-ltb d c.args.m (omega (arith, w.if-i-m.false)))))
+pub loop-r-preserved : goal.loop-r-preserved
+loop-r-preserved c =
+    elim c.if-row_has.branch [
+      | then-row_has w ↦ built_put c.loop-r.invariant c.loop-r-test.true (sym c.row_has.ensures ∙ w.if-row_has.true) _ (ap shown w.held-is ∙ w.put.ensures)
+      | else-row_has w ↦ built_skip c.loop-r.invariant (sym c.row_has.ensures ∙ w.if-row_has.false) _ (ap shown w.held-is)
     ]
 
 pub returns : goal.returns
-returns c = filled_shown (holding c.args.words.now c.args.c) c.args.m c.loop-i.held c.loop-i.i (omega arith) c.loop-i.invariant c.requires
+returns c = built_all c.loop-r.invariant (omega arith)

@@ -1,5 +1,7 @@
-use Rattle.search.specs.Rows.{held_below, Filled}
+use Rattle.policies.specs.Shown.{shown}
+use Rattle.search.specs.Rows.{holding}
+use Rattle.search.proofs.Built.{Built}
 use Rattle.search.proofs.rows.holders.Given as goal
 
-abbrev pub invariant-loop-i : goal.invariant-loop-i
-invariant-loop-i l = Filled (held_below l.m l.words l.c) l.held l.i
+abbrev pub invariant-loop-r : goal.invariant-loop-r
+invariant-loop-r l = Built l.m (holding l.words l.c) (shown l.held) l.r

@@ -1,4 +1,4 @@
-use Rattle.std.proofs.Common.{refl, ap, ◌∙◌}
+use Rattle.std.proofs.Common.{ap, ◌∙◌}
 use Rattle.search.specs.Steps.{settled}
 use Rattle.search.specs.View.{bare, with_policy}
 use Rattle.search.proofs.Stepping.{going_own, settle_policy}

@@ -1,8 +1,8 @@
-use Rattle.std.proofs.Common.{◌≡◌, ℕ, ◌+◌, ◌<◌, ◌≤◌, [], ◌∷◌, ◌++◌, length, get_or, take, sym, refl, ap, ◌∙◌, arith}
+use Rattle.std.proofs.Common.{◌≡◌, ◌<◌, [], ◌∷◌, ◌++◌, length, get_or, take, sym, refl, ap, ◌∙◌, arith}
 use Rattle.std.proofs.ByRecursion.{All-get_or}
 use Rattle.std.proofs.lemmas.List.{take_more, get_or-take, length-take-le}
 use Rattle.method.specs.Sets.{lowest}
-use Rattle.method.specs.Method.{State, holder, settle, settle_at}
+use Rattle.method.specs.Method.{holder, settle, settle_at}
 use Rattle.method.proofs.Loop.{settle_push}
 use Rattle.search.specs.View.{bare, listed}
 use Rattle.search.proofs.settle.settle_all.Goals as goal

@@ -1,6 +1,6 @@
-use Rattle.std.proofs.Common.{◌≡◌, length, Some, None, sym, refl, ap, ◌∙◌, arith}
+use Rattle.std.proofs.Common.{Some, None, sym, refl, ap, ◌∙◌, arith}
 use Rattle.method.specs.Sets.{lowest}
-use Rattle.method.specs.Method.{State, holder, blank, settle_at}
+use Rattle.method.specs.Method.{holder, blank, settle_at}
 use Rattle.method.proofs.Marks.{lowest_some}
 use Rattle.policies.specs.Shown.{shown}
 use Rattle.search.specs.View.{lines, listed, bare}
@@ -15,7 +15,7 @@ use_row-requires g c =
     let ws = c.args.words.now in
     let ss = c.args.sides.now in
     let found = lowest_holder K n ws ss w.uses c.args.c (shown c.holders-held.result) c.requires.column c.requires.sized.high c.holders-held.ensures (Some c.in-Some.r)
-    c.in-Some.ensures in
+    (c.in-Some.ensures ∙ ap (lowest (λ b. b)) c.both.ensures) in
     record {
       sized = c.requires.sized;
       held = c.holders-held.ensures;
@@ -31,7 +31,7 @@ returns-in-Some g c =
     let ws = c.args.words.now in
     let ss = c.args.sides.now in
     let found = lowest_holder K w.active.width ws ss w.uses c.args.c (shown c.holders-held.result) c.requires.column c.requires.sized.high c.holders-held.ensures (Some c.in-Some.r)
-    c.in-Some.ensures in
+    (c.in-Some.ensures ∙ ap (lowest (λ b. b)) c.both.ensures) in
     let e = c.use_row.ensures in
     record {
       sized = e.sized;
@@ -48,7 +48,7 @@ returns-in-None g c =
     let ss = c.args.sides.now in
     let n = w.active.width in
     let none = lowest_holder K n ws ss w.uses c.args.c (shown c.holders-held.result) c.requires.column c.requires.sized.high c.holders-held.ensures None
-    c.in-None.ensures in
+    (c.in-None.ensures ∙ ap (lowest (λ b. b)) c.both.ensures) in
     record {
       sized = record { wide = refl; high = c.requires.sized.high; few = c.requires.sized.few; within = c.requires.sized.within };
       same = refl;

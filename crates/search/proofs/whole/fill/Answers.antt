@@ -1,4 +1,4 @@
-use Rattle.std.proofs.Common.{◌∙◌, arith}
+use Rattle.std.proofs.Common.{arith}
 use Rattle.search.specs.Found.{symbol_at}
 use Rattle.search.proofs.Filling.{filling_none, filling_kept, filling_put, filling_all}
 use Rattle.search.proofs.whole.fill.Goals as goal

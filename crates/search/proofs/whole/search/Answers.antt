@@ -1,5 +1,5 @@
-use Rattle.std.proofs.Common.{◌≡◌, ◌≤◌, length, Ok, Err, sym, refl, ap, ◌∙◌, arith}
-use Rattle.search.specs.Searches.{done, searched, read_out}
+use Rattle.std.proofs.Common.{◌≡◌, ◌≤◌, length, Ok, ap, ◌∙◌, arith}
+use Rattle.search.specs.Searches.{done, searched}
 use Rattle.search.proofs.Telling.{err_is, unfound_done, found_done, searched_tells}
 use Rattle.search.proofs.whole.search.Goals as goal
 

@@ -1,11 +1,8 @@
-use Rattle.std.proofs.Common.{mul_comm, arith}
-use Rattle.layers.specs.LayerLaws.{squares_parts}
+use Rattle.std.proofs.Common.{sym, ◌∙◌}
 use Rattle.layers.proofs.Interleavings.{shows}
 use Rattle.layers.proofs.interleaved.Interleaved.row_below.Goals as goal
 
-pub returns : goal.returns
-returns g c = λ f.
+pub returns-then-fits : goal.returns-then-fits
+returns-then-fits g c =
     let x = c.args.self.now in
-    let k = g.C.Rows.matrix x.below in
-    shows x.a x.b x.z k f c.args.r c.turn.result
-    (c.turn.ensures (omega (arith, (squares_parts x.a x.b x.z k f).0, mul_comm x.a x.z, (g.C.Rows.lawful x.below).few_rows)))
+    shows x.a x.b x.z (g.C.Rows.matrix x.below) (sym c.requires ∙ c.if-fits.true) c.args.fits c.args.r c.turn.result c.if-fits.true c.turn.ensures
