@@ -1,10 +1,11 @@
 #!/usr/bin/env python3
-"""Spells the repository's own definitions and lemmas in snake case, once, after port.py of the kit has turned the rest.
+"""Spells the repository's own definitions and lemmas as today's Rattle does, once, after port.py of the kit has turned the rest.
 
 usage: python3 tools/snake_names.py [--look]      at the top of the repository; --look only says what it would do
 
-A name that specs/ or proofs/ declares (a definition, a lemma, a field, a constructor, a local one) gets underscores for dashes. Names that
-Rattle makes (goals, their labels) and names of libraries stay, as do all names of the code. Names in backticks in README.md and docs/ follow.
+A name that specs/ or proofs/ declares (a definition, a lemma, a field, a constructor, a local one) gets underscores for dashes, and that of a
+type, which begins with a capital, is written in camel case. Names that Rattle makes (goals, their labels) and names of libraries stay, as do
+all names of the code, and words of comments that are names by chance (PROSE). Names in backticks in README.md and docs/ follow.
 A line `meets:` lists a new name that stands already in a file that gets it.
 """
 
@@ -12,8 +13,8 @@ import glob
 import re
 import sys
 
-TOKEN = re.compile(r"[^\s(){}.;,@\"«»\[\]\\]+")
-DECLARED = re.compile(r"(?m)^\s*(?:(?:pub|abbrev|unfoldable|private|let)\s+)*([^\s(){}.;,:]+)\s+(?:\{[^{}\n]*\}\s*)*:(?=\s)(?! goal\.)")
+TOKEN = re.compile(r"[^\s(){}.;,@\"«»\[\]\\`]+")
+DECLARED = re.compile(r"(?m)^\s*(?:(?:pub|abbrev|unfoldable|private|let|record|data)\s+)*([^\s(){}.;,:]+)\s+(?:\{[^{}\n]*\}\s*)*:(?=\s)(?! goal\.)")
 BINDER = re.compile(r"[({]((?:[^\s(){}.;,:]+ )+):")
 LET = re.compile(r"\blet ([^\s(){}.;,:]+) *(?::|=)")
 IMPORT = re.compile(r"(?m)^(?:ghost )?use (\S+?)\.\{([^}]*)\}")
@@ -31,7 +32,7 @@ def read(path):
 
 
 def is_turned(name):
-    return re.fullmatch(r"[^\W\d_][\w']*(?:-[\w'ℕℤ]+)+|\w*(?:getD|sumBy)\w*", name) is not None
+    return re.fullmatch(r"[A-Z][a-z]+(?:_[a-z]+)+|[^\W\d_][\w']*(?:-[\w'ℕℤ]+)+|\w*(?:getD|sumBy)\w*", name) is not None
 
 
 def declared(all_texts):
@@ -42,7 +43,7 @@ def declared(all_texts):
                 names.add(found)
             for group in BINDER.findall(text):
                 names.update(group.split())
-    return {n for n in names if is_turned(n)}
+    return {n for n in names if is_turned(n)} | BOUND
 
 
 def of_libraries(text):
@@ -54,18 +55,26 @@ def of_libraries(text):
 
 
 # Plain underscores would give these a name that a library's definition beside them has.
-APART = {"bit-and": "bit_of_and", "bit-or": "bit_of_or", "bit-xor": "bit_of_xor", "put-mid": "put_mid_is"}
+APART = {"bit-and": "bit_of_and", "bit-or": "bit_of_or", "bit-xor": "bit_of_xor", "put-mid": "put_mid_is", "Named-in-turn": "ColumnsNamedInTurn", "Named_in_turn": "ColumnsNamedInTurn"}
+# Names that are bound where no pattern above sees them.
+BOUND = {"some-m", "few-m", "some-n", "few-n", "with-word", "numbers-alike", "Lawful-row"}
+# Words of comments.
+PROSE = {"quasi-cyclic": "code"}
 # What comes right behind these, in an Answers or Invariants file, is a name that Rattle makes.
 HEAD = re.compile(r"(?<![^\s(){},;@\"«»])(?:c|w|l|g|goal)\.$")
 
 
 def spelled(name):
+    if name not in APART and name[0].isupper():
+        return "".join(part[0].upper() + part[1:] for part in re.split("[-_]", name))
     return APART.get(name, name.replace("getD", "get_or").replace("sumBy", "sum_by").replace("-", "_"))
 
 
 def turn(text, names, stay, is_answers=False):
     def word(m):
         t = m[0]
+        if t in PROSE and re.match(rf"[ -]*{PROSE[t]}|[ -]*one\b", text[m.end() :]):
+            return t
         if t not in names or t in stay or is_answers and HEAD.search(text, max(0, m.start() - 8), m.start()):
             return t
         return spelled(t)

@@ -1,5 +1,5 @@
 // Sets: what they hold, putting in and taking out, sums and what is shared.
-ghost use Rattle.std.specs.Prelude.{◌≡◌, ℕ, ◌/◌, ◌%◌, ◌^◌, ◌<◌, length, set as with-word, bit_or, bit_xor, slice_index};
+ghost use Rattle.std.specs.Prelude.{◌≡◌, ℕ, ◌/◌, ◌%◌, ◌^◌, ◌<◌, length, set as with_word, bit_or, bit_xor, slice_index};
 ghost use Rattle.bits.specs.Sets.{bit, holds, xors, ands, Put, Flipped};
 
 use std::simd::prelude::*;
@@ -33,7 +33,7 @@ pub fn put(words: &mut [u64], c: usize)
 
 fn put_bit(words: &mut [u64], c: usize)
     requires { c / 64 < length words.old }
-    ensures { words.new ≡ with-word words.old (c / 64) (bit_or (slice_index words.old (c / 64)) (2 ^ (c % 64))) }
+    ensures { words.new ≡ with_word words.old (c / 64) (bit_or (slice_index words.old (c / 64)) (2 ^ (c % 64))) }
 {
     words[c / 64] |= 1 << (c % 64);
 }
@@ -49,7 +49,7 @@ pub fn flip(words: &mut [u64], c: usize)
 
 fn flip_bit(words: &mut [u64], c: usize)
     requires { c / 64 < length words.old }
-    ensures { words.new ≡ with-word words.old (c / 64) (bit_xor (slice_index words.old (c / 64)) (2 ^ (c % 64))) }
+    ensures { words.new ≡ with_word words.old (c / 64) (bit_xor (slice_index words.old (c / 64)) (2 ^ (c % 64))) }
 {
     words[c / 64] ^= 1 << (c % 64);
 }

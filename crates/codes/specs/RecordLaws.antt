@@ -5,9 +5,9 @@
 --   Rising                records in range, of rising ranks from `low` on
 --   rising                records without a bad one are so
 --   rows_rise             a later record is of the same row or of a later one
---   Sizes, sizes          the bounds that `sizes-fit` tells
+--   Sizes, sizes          the bounds that `sizes_fit` tells
 --   listed_rising, listed_ones, listed_lawful    of a listed code: its records rise, how many ones it has, and that it is lawful
-use Rattle.std.specs.Prelude.{◌≡◌, ℕ, zero, suc, ◌+◌, ◌*◌, ◌<◌, ◌≤◌, Bool, true, false, cond, ◌&&◌, ltb, List, [], ◌∷◌, map, length, is_some, Some, None, filter, Option, ◌==◌, nat_eq, nat_le, nat_lt, refl}
+use Rattle.std.specs.Prelude.{◌≡◌, ℕ, zero, suc, ◌+◌, ◌*◌, ◌<◌, ◌≤◌, Bool, true, false, cond, ◌&&◌, List, [], ◌∷◌, map, length, is_some, Some, None, filter, Option, ◌==◌, nat_eq, nat_le, nat_lt, refl}
 use Rattle.std.proofs.Common.{◌∙◌, ⊎_elim, arith}
 use Rattle.std.specs.List.{AllByRecursion}
 use Rattle.std.proofs.ByRecursion.{All-weaker}
@@ -39,7 +39,7 @@ follows_rank : (last : Option Record) (k : Record) → Narrow last → follows l
 follows_rank None k h f = omega arith
 follows_rank (Some j) k h f =
     ⊎_elim
-    (λ (l : ltb j.row k.row ≡ true). omega (arith, ltb-true _ _ l))
+    (λ (l : nat_lt j.row k.row ≡ true). omega (arith, ltb-true _ _ l))
     (λ (s : (j.row == k.row && nat_lt j.column k.column) ≡ true).
     let p = and_parts (j.row == k.row) (nat_lt j.column k.column) s in omega (arith, eqb-true _ _ p.0, ltb-true _ _ p.1))
     (or_cases (nat_lt j.row k.row) (j.row == k.row && nat_lt j.column k.column) f)

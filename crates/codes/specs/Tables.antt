@@ -29,9 +29,9 @@ module _ (m n : ℕ) (f : ℕ → List ℕ) where
   table_ones = sum_by_counting length f 0 m
 
   pub table_lawful : 1 ≤ m → m ≤ 256 → 1 ≤ n → n ≤ 512 → ones (table m n f) ≤ 4096 → ((r : ℕ) → Row n (f r)) → Lawful (table m n f)
-  table_lawful some-m few-m some-n few-n few each = record {
-    some_column = some-n;
-    few_columns = few-n;
+  table_lawful some_m few_m some_n few_n few each = record {
+    some_column = some_n;
+    few_columns = few_n;
     some_row = omega (arith, table_height);
     few_rows = omega (arith, table_height);
     few_ones = few;

@@ -3,7 +3,7 @@
 --   tied                a code of five rows and five columns, with ties in weights and in joined sets
 --   lost, zeros         all its places; its one codeword
 --   all_active          all its columns, as marks
---   Telling-examples    what is answered in each case
+--   TellingExamples    what is answered in each case
 use Rattle.std.specs.Prelude.{◌≡◌, ℕ, Bool, List, [], ◌∷◌, ◌++◌, Some}
 use Rattle.symbols.specs.declared.kinds.Bit.{Bit}
 use Rattle.codes.specs.Matrix.{Matrix}
@@ -31,7 +31,7 @@ all_active = all_but 5 []
 
 -- each mistaken rule beside the right one; in a search a used row has no active column left, so that rules which count such rows
 -- differ only where a policy is asked directly
-pub record Telling-examples : Type 0 where
+pub record TellingExamples : Type 0 where
   pub settles_lowest : (p : First) → found by_first tied lost zeros p ≡ one 2 12 zeros
   pub mistaken_settles_highest : (p : First) → found_settling_highest by_first tied lost zeros p ≡ one 2 10 zeros
   pub heaviest_lowest : (p : Heaviest) → found (by_heaviest tied) tied lost zeros p ≡ one 1 9 zeros

@@ -3,7 +3,7 @@
 --   hamming             the Hamming code of seven places, by the records of its three rows
 --   sent                a codeword of it
 --   circulant           one line of two squares of width three, turned by 1 and by 0
---   Worked-examples     what is answered in each case
+--   WorkedExamples     what is answered in each case
 use Rattle.std.specs.Prelude.{◌≡◌, ℕ, List, [], ◌∷◌, ◌++◌, length, pos, Ok}
 use Rattle.symbols.specs.declared.kinds.Bit.{Bit}
 use Rattle.packets.specs.Packets.{read_header}
@@ -27,7 +27,7 @@ abbrev pub circulant : Matrix
 circulant = quasi_cyclic 1 2 3 (pos 1 ∷ pos 0 ∷ [])
 
 -- an answer's numbers are its pivots, its additions and, of several, its shortfall
-pub record Worked-examples : Type 0 where
+pub record WorkedExamples : Type 0 where
   pub nothing_missing : (p : First) → found by_first hamming [] sent p ≡ one 0 0 sent
   pub peeled : (p : First) → found by_first hamming (0 ∷ 2 ∷ []) sent p ≡ one 0 1 sent
   pub stalled_first : (p : First) → found by_first hamming (2 ∷ 4 ∷ 6 ∷ []) sent p ≡ one 1 4 sent

@@ -1,19 +1,19 @@
 // Worked examples over the definitions of the whole receiver: each function carries a table of them.
 #![tactic(auto)]
 
-ghost use Rattle.examples.specs.Worked.{Worked-examples};
-ghost use Rattle.examples.specs.Telling.{Telling-examples};
+ghost use Rattle.examples.specs.Worked.{WorkedExamples};
+ghost use Rattle.examples.specs.Telling.{TellingExamples};
 
 // Searches over one small code, a circulant, its interleaving, and a header.
 pub fn worked_examples() -> u8
-    ensures { Worked-examples }
+    ensures { WorkedExamples }
 {
     0
 }
 
 // Answers that the right rules give and mistaken ones do not.
 pub fn telling_examples() -> u8
-    ensures { Telling-examples }
+    ensures { TellingExamples }
 {
     0
 }

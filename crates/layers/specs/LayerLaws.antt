@@ -1,9 +1,9 @@
 -- Layers over lawful codes are lawful. (Lemmas: nothing here is to be believed.)
 --
 --   turn_small, turn_large, turned_in, turn_in, turn_back   turning below p * q and past it, that it stays below, and how it is undone
---   squares_parts         what `squares-fit` tells
---   interleaved_ones, interleaved_lawful    the ones of an interleaved code, and that it is lawful
---   stack_parts           what `stack-fits` tells
+--   squares_parts         what `squares_fit` tells
+--   turned_ones, interleaved_lawful    the ones of an interleaved code, and that it is lawful
+--   stack_parts           what `stack_fits` tells
 --   stacked_lawful        a stacked code is lawful
 use Rattle.std.specs.Prelude.{◌≡◌, ℕ, zero, suc, ◌+◌, ◌*◌, ◌/◌, ◌%◌, ◌<◌, ◌≤◌, true, ◌&&◌, ◌||◌, List, [], ◌∷◌, ◌++◌, map, length, sum_by, ◌==◌, nat_eq, nat_le, refl}
 use Rattle.std.proofs.Common.{sym, ap, subst, ◌∙◌, ⊎_elim, arith, add_comm, mul_comm, zero-mul}

@@ -10,10 +10,10 @@ use Rattle.codes.specs.Matrix.{Matrix, member, Apart}
 use Rattle.method.specs.Sets.{lowest}
 use Rattle.method.specs.Method.{State, final, clash, filled, answer_at, answer, method}
 use Rattle.method.specs.Fillings.{Agreeing, says_none, Pairwise, Listing}
-use Rattle.method.specs.Theorems.{Two_valued, Doubles}
+use Rattle.method.specs.Theorems.{TwoValued, Doubles}
 use Rattle.method.proofs.Sums.{at}
 use Rattle.method.proofs.Counts.{occ_some, member_some, member_none}
-use Rattle.method.proofs.Final.{shares_le, ended_settled, Clean, Off_used}
+use Rattle.method.proofs.Final.{shares_le, ended_settled, Clean, OffUsed}
 use Rattle.method.proofs.Tells.{Search, final_search, filling, filling_agrees, filling_only, filling_free, no_clash}
 use Rattle.method.proofs.Listings.{pairwise_append, pairwise_map, pairwise_weaker, has_map}
 
@@ -78,7 +78,7 @@ module _ {S : Type 0} (K : Kind S) where
         (λ z _. (f, ap (λ b. b || member f fs) (eq-eqb f f refl), λ e. L.distinct (sym (with_unit_at f z) ∙ sym e ∙ h f a.0))) vs off)) vs off)
 
     -- every symbols x are matched at the places listed
-    pub valuations_all : Two_valued K → (fs : List ℕ) → Apart fs → (x : ℕ → S) → (y : ℕ → S) × Has (valuations fs) y × ((c : ℕ) → member c fs ≡ true → x c ≡ y c)
+    pub valuations_all : TwoValued K → (fs : List ℕ) → Apart fs → (x : ℕ → S) → (y : ℕ → S) × Has (valuations fs) y × ((c : ℕ) → member c fs ≡ true → x c ≡ y c)
     valuations_all two [] a x = (λ _. K.zero, (0, omega arith, λ d. refl), λ c h. absurd (true≢false (sym h)))
     valuations_all two (f ∷ fs) a x = go (two (x f)) (valuations_all two fs a.1 x)
       where
@@ -103,12 +103,12 @@ module _ {S : Type 0} (K : Kind S) where
             at_c c (inr h) = t.2 c h ∙ sym (with_unit_off f fs a.0 t.0 c h)
 
 module _ {S P : Type 0} {K : Kind S} (L : Laws K) {k : Matrix} {got : List Bool} {syms : List S} {s : State S P} (d : Search K k got syms s) where
-  off_used : AllByRecursion (Off_used K s.rows) (valuations K s.free)
+  off_used : AllByRecursion (OffUsed K s.rows) (valuations K s.free)
   off_used =
-      All-weaker (Off K s.free) (Off_used K s.rows)
+      All-weaker (Off K s.free) (OffUsed K s.rows)
       (λ y h c u. h c (member_none c s.free (omega (arith, u, shares_le d.ended c)))) (valuations K s.free) (valuations_off K s.free)
 
-  pub agreeing_listing : Two_valued K → Clean K s.rows → Listing (Agreeing K k got syms) (2 ^ length s.free)
+  pub agreeing_listing : TwoValued K → Clean K s.rows → Listing (Agreeing K k got syms) (2 ^ length s.free)
   agreeing_listing two clean = record {
     list = map of vs;
     long = length-map vs of ∙ length_valuations K s.free;
@@ -131,12 +131,12 @@ module _ {S P : Type 0} {K : Kind S} (L : Laws K) {k : Matrix} {got : List Bool}
           p.2 (sym (filling_free L d y p.0 o) ∙ ap (λ w. at K w p.0) e ∙ filling_free L d z p.0 o)
 
       agree : AllByRecursion (Agreeing K k got syms) (map of vs)
-      agree = All-map (Agreeing K k got syms) of vs (All-weaker (Off_used K s.rows) (λ y. Agreeing K k got syms (of y)) (filling_agrees L d clean) vs off_used)
+      agree = All-map (Agreeing K k got syms) of vs (All-weaker (OffUsed K s.rows) (λ y. Agreeing K k got syms (of y)) (filling_agrees L d clean) vs off_used)
 
       in_list : (w : List S) → Agreeing K k got syms w → Has (map of vs) w
       in_list w g =
           let t = valuations_all K L two s.free apart (at K w) in
-          let is : w ≡ of t.0 = filling_only L d w g t.0 (all-has (Off_used K s.rows) vs t.0 off_used t.1) (λ c o. t.2 c (member_some c s.free o)) in
+          let is : w ≡ of t.0 = filling_only L d w g t.0 (all-has (OffUsed K s.rows) vs t.0 off_used t.1) (λ c o. t.2 c (member_some c s.free o)) in
           subst (Has (map of vs)) (sym is) (has_map of vs t.0 t.1)
 
 module _ {S : Type 0} {K : Kind S} (L : Laws K) {P : Type 0} where

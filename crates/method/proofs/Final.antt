@@ -92,8 +92,8 @@ abbrev pub Clean : {S : Type 0} → Kind S → List (Row S) → Type 0
 Clean K rows = (r : ℕ) → (row_of K rows r).used ≡ None → (row_of K rows r).right ≡ K.zero
 
 -- zero at every used column
-abbrev pub Off_used : {S : Type 0} → Kind S → List (Row S) → (ℕ → S) → Type 0
-Off_used K rows y = (c : ℕ) → 1 ≤ used_count c rows → y c ≡ K.zero
+abbrev pub OffUsed : {S : Type 0} → Kind S → List (Row S) → (ℕ → S) → Type 0
+OffUsed K rows y = (c : ℕ) → 1 ≤ used_count c rows → y c ≡ K.zero
 
 module _ {S P : Type 0} {K : Kind S} (L : Laws K) {m : List Bool} {from : List (Row S)} {s : State S P} (e : Ended K m from s) where
   pub value_free : (y : ℕ → S) (c : ℕ) → used_count c s.rows ≡ 0 → value K s.rows y c ≡ y c
@@ -103,7 +103,7 @@ module _ {S P : Type 0} {K : Kind S} (L : Laws K) {m : List Bool} {from : List (
   rest : ℕ → ℕ → List Bool
   rest r c = set (row_of K s.rows r).cols c false
 
-  value_used : (y : ℕ → S) → Off_used K s.rows y → (r c : ℕ) → (row_of K s.rows r).used ≡ Some c
+  value_used : (y : ℕ → S) → OffUsed K s.rows y → (r c : ℕ) → (row_of K s.rows r).used ≡ Some c
       → value K s.rows y c ≡ K.sum (row_of K s.rows r).right (sum_over K (rest r c) y)
   unfolding rest
   value_used y off r c u =
@@ -120,7 +120,7 @@ module _ {S P : Type 0} {K : Kind S} (L : Laws K) {m : List Bool} {from : List (
   rest_same x y same r c u =
       sum_same L (rest r c) x y (λ d h. let t = clear_is (row_of K s.rows r).cols c d h in same d (used_holds e r c d u t.0 t.1))
 
-  pub value_solves : Clean K s.rows → (y : ℕ → S) → Off_used K s.rows y
+  pub value_solves : Clean K s.rows → (y : ℕ → S) → OffUsed K s.rows y
       → (x : ℕ → S) → ((c : ℕ) → has m c ≡ true → x c ≡ value K s.rows y c) → Solves K s.rows x
   unfolding rest
   value_solves clean y off x is r = go row.used refl
@@ -141,7 +141,7 @@ module _ {S P : Type 0} {K : Kind S} (L : Laws K) {m : List Bool} {from : List (
           ∙ ap (K.sum row.right) (L.cancels (sum_over K (rest r c) y)) ∙ sum_zero L row.right
 
   -- a solution is determined by its symbols at the free pivots
-  pub value_only : (x : ℕ → S) → Solves K s.rows x → (y : ℕ → S) → Off_used K s.rows y → ((d : ℕ) → 1 ≤ occ d s.free → x d ≡ y d)
+  pub value_only : (x : ℕ → S) → Solves K s.rows x → (y : ℕ → S) → OffUsed K s.rows y → ((d : ℕ) → 1 ≤ occ d s.free → x d ≡ y d)
       → (c : ℕ) → has m c ≡ true → x c ≡ value K s.rows y c
   unfolding rest
   value_only x sx y off same c h = go (free_or_used e c h)

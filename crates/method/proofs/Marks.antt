@@ -5,7 +5,7 @@ use Rattle.std.specs.List.{AllByRecursion}
 use Rattle.std.proofs.lemmas.List.{get_or_past}
 use Rattle.std.proofs.lemmas.Bool.{false≢true, both_ways, not-true, cases_eq, cases_lt, and_right, eqb-true, ne_eqb}
 use Rattle.codes.specs.Matrix.{member, Apart}
-use Rattle.codes.specs.Matrix.{Row as Lawful-row}
+use Rattle.codes.specs.Matrix.{Row as LawfulRow}
 use Rattle.method.specs.Sets.{has, differs, sym_diff, meet, lowest, here_or, table, marks, kept_if, marked}
 use Rattle.method.specs.Method.{missing}
 
@@ -128,7 +128,7 @@ marked_apart s (x ∷ xs) h = go (has s x) (marked_apart s xs h.1)
     go true ih = (member_marked s xs x ∙ ap (λ b. b && has s x) h.0, ih)
     go false ih = ih
 
-pub marked_lawful : (n : ℕ) (s : List Bool) (row : List ℕ) → Lawful-row n row → Lawful-row n (marked s row)
+pub marked_lawful : (n : ℕ) (s : List Bool) (row : List ℕ) → LawfulRow n row → LawfulRow n (marked s row)
 marked_lawful n s row h = record { within = marked_all (λ c. c < n) s row h.within; apart = marked_apart s row h.apart }
 
 -- the lowest place that passes: it passes, and without one none passes

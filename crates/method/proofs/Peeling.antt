@@ -11,7 +11,7 @@ use Rattle.method.specs.Method.{Row, State, Choice, missing, is_none, row_holds,
 use Rattle.method.specs.Choices.{Names, Naming}
 use Rattle.method.specs.Fillings.{No, pivots_of}
 use Rattle.method.specs.Stopping.{NoneAlone, Among, Stopping, NamedInTurn}
-use Rattle.method.specs.Theorems.{Named_in_turn, Pivots_tell}
+use Rattle.method.specs.Theorems.{ColumnsNamedInTurn, PivotsTell}
 use Rattle.method.proofs.Marks.{none_some, has_below, has_meet, has_marks, member_marked, clear_is, lowest_none}
 use Rattle.method.proofs.Counts.{none_count, one_only}
 use Rattle.method.proofs.Rows.{use_same, use_other, holds_added, used_added, differs_keeps}
@@ -216,7 +216,7 @@ module _ {S : Type 0} (K : Kind S) {P : Type 0} where
       answer_pivots (lowest (clash K) s.rows) (length s.pivots) s.additions s.free (filled K k.width got syms s.rows)
 
 module _ {S : Type 0} {K : Kind S} (L : Laws K) {P : Type 0} where
-  pub named_in_turn : Named_in_turn S K P
+  pub named_in_turn : ColumnsNamedInTurn S K P
   unfolding final
   named_in_turn choice ok k lawful got wide syms p =
       subst (NamedInTurn k (has (missing got))) (sym (settle_pivots K s.pivots s ∙ t.1)) (t.2 (has (missing got)) (record { among = λ c i. i; most = λ part w na. w }))
@@ -227,7 +227,7 @@ module _ {S : Type 0} {K : Kind S} (L : Laws K) {P : Type 0} where
       t : Turn K k choice ok k.width (start K k got syms p)
       t = turn K k choice ok k.width (start K k got syms p) (peeled_start K k got wide syms p) (steps_idle L choice ok k got wide syms p)
 
-  pub pivots_tell : Pivots_tell S K P
+  pub pivots_tell : PivotsTell S K P
   pivots_tell choice ok k lawful got wide syms p =
       let t = none_named k (has (missing got)) (final K choice k got syms p).pivots (named_in_turn choice ok k lawful got wide syms p) in
       let e = method_pivots K choice k got syms p in

@@ -9,7 +9,7 @@ use Rattle.method.specs.Sets.{differs, table, lowest}
 use Rattle.method.specs.Method.{State, Choice, one, several, clash, filled, final, answer_at, answer, method}
 use Rattle.method.specs.Choices.{Naming}
 use Rattle.method.specs.Fillings.{Agreeing, says_none, uncounted, Exactly, Listing}
-use Rattle.method.specs.Theorems.{Two_valued, Shortfall_by_places_alone, Policy_alters_no_answer}
+use Rattle.method.specs.Theorems.{TwoValued, ShortfallByPlacesAlone, PolicyAltersNoAnswer}
 use Rattle.method.proofs.Marks.{length_table}
 use Rattle.method.proofs.Sums.{sum_of}
 use Rattle.method.proofs.Tells.{tells_exactly}
@@ -45,7 +45,7 @@ bit_laws = record {
     cancels true = refl
     cancels false = refl
 
-bit_two : Two_valued bit
+bit_two : TwoValued bit
 bit_two true = inr refl
 bit_two false = inl refl
 
@@ -91,7 +91,7 @@ zeros_listing choice naming k ok got wide p = doubles bit_laws bit_two choice na
     go (inl h) = absurd ((tells_exactly bit_laws choice naming k ok got wide [] p).none_when.0 h (table k.width (λ _. false)) (zero_agrees k got))
     go (inr h) = h
 
-pub shortfall_by_places_alone : (S : Type 0) (K : Kind S) (P S' : Type 0) (K' : Kind S') (P' : Type 0) → Shortfall_by_places_alone S K P S' K' P'
+pub shortfall_by_places_alone : (S : Type 0) (K : Kind S) (P S' : Type 0) (K' : Kind S') (P' : Type 0) → ShortfallByPlacesAlone S K P S' K' P'
 shortfall_by_places_alone S K P S' K' P' choice naming other naming' k ok got wide syms p symbols q =
     ap length (frees K choice k got syms p)
     ∙ both (listing_same _ _ (zeros_listing choice naming k ok got wide p) (zeros_listing other naming' k ok got wide q))
@@ -114,7 +114,7 @@ same_answer p a p' a' w w' None None (f ∷ fs) [] l x y = absurd (omega (arith,
 same_answer p a p' a' w w' None None (f ∷ fs) (g ∷ gs) l x y = ap (several 0 0) l
 
 module _ {S : Type 0} {K : Kind S} (L : Laws K) {P Q : Type 0} where
-  pub policy_alters_no_answer : Policy_alters_no_answer S K P Q
+  pub policy_alters_no_answer : PolicyAltersNoAnswer S K P Q
   unfolding answer method
   policy_alters_no_answer choice naming other naming' k ok got wide syms p q =
       let s : State S P = final K choice k got syms p in

@@ -5,7 +5,7 @@ use Rattle.std.proofs.lemmas.Bool.{true≢false, false≢true, eq-eqb}
 use Rattle.symbols.specs.Kinds.{Kind, Laws}
 use Rattle.symbols.specs.Sums.{sum_at}
 use Rattle.codes.specs.Matrix.{member}
-use Rattle.codes.specs.Matrix.{Row as Lawful-row}
+use Rattle.codes.specs.Matrix.{Row as LawfulRow}
 use Rattle.method.specs.Sets.{has, differs, sym_diff, marks, kept_if, marked}
 use Rattle.method.specs.Method.{missing}
 use Rattle.method.proofs.Marks.{has_marks, marks_none, marks_less, has_missing}
@@ -90,7 +90,7 @@ module _ {S : Type 0} {K : Kind S} (L : Laws K) where
   sum_zeros (false ∷ s) = sum_zeros s
 
   -- the sum at listed places is that over their marks
-  pub total_marks : (n : ℕ) (row : List ℕ) → Lawful-row n row → (w : List S) → sum_of K w row ≡ sum_over K (marks n row) (at K w)
+  pub total_marks : (n : ℕ) (row : List ℕ) → LawfulRow n row → (w : List S) → sum_of K w row ≡ sum_over K (marks n row) (at K w)
   total_marks n [] d w = sym (sum_none (marks n []) (at K w) (marks_none n))
   total_marks n (c ∷ cs) d w =
       let hc : has (marks n (c ∷ cs)) c ≡ true = has_marks n (c ∷ cs) c d.within.0 ∙ ap (λ b. b || member c cs) (eq-eqb c c refl) in

@@ -7,14 +7,14 @@ use Rattle.method.specs.Sets.{has, table, lowest}
 use Rattle.method.specs.Method.{Row, State, Choice, Outcome, none, one, several, missing, unused, row_of, blank, row_for, filled, clash, start_rows, final, answer_at, answer, method}
 use Rattle.method.specs.Choices.{Naming}
 use Rattle.method.specs.Fillings.{Agreeing, No, Only, One, Two, says_none, says_several, Exactly}
-use Rattle.method.specs.Theorems.{Tells_exactly, Final_state}
+use Rattle.method.specs.Theorems.{TellsExactly, FinalState}
 use Rattle.method.proofs.Marks.{has_below, missing_is, missing_from, get_or_table, length_table, lowest_some, lowest_none}
 use Rattle.method.proofs.Sums.{sum_over, at, sum_zero, sum_none, sum_zeros}
 use Rattle.method.proofs.Counts.{occ, occ_self, used_count}
 use Rattle.method.proofs.Rows.{Solves}
 use Rattle.method.proofs.Run.{is_none_is, Ended, final_fine}
 use Rattle.method.proofs.Codes.{code_solves, solves_code}
-use Rattle.method.proofs.Final.{free_is, unused_empty, ended_settled, value, Clean, Off_used, value_free, value_solves, value_only}
+use Rattle.method.proofs.Final.{free_is, unused_empty, ended_settled, value, Clean, OffUsed, value_free, value_solves, value_only}
 
 -- what was received, with a solution at the missing places
 abbrev pub filling : {S : Type 0} → Kind S → Matrix → List Bool → List S → List (Row S) → (ℕ → S) → List S
@@ -50,7 +50,7 @@ module _ {S P : Type 0} {K : Kind S} (L : Laws K) {k : Matrix} {got : List Bool}
   meets : (w : List S) → Agreeing K k got syms w → Solves K s.rows (at K w)
   meets w g = d.ended.kept.onward (at K w) (code_solves L k.width got d.wide syms w g.agrees k.rows d.lawful.each g.codeword.sums)
 
-  pub filling_agrees : Clean K s.rows → (y : ℕ → S) → Off_used K s.rows y → Agreeing K k got syms (filling K k got syms s.rows y)
+  pub filling_agrees : Clean K s.rows → (y : ℕ → S) → OffUsed K s.rows y → Agreeing K k got syms (filling K k got syms s.rows y)
   filling_agrees clean y off = record {
     codeword = record {
       wide = length_table k.width (λ c. cond (has got c) (at K syms c) (value K s.rows y c));
@@ -64,7 +64,7 @@ module _ {S P : Type 0} {K : Kind S} (L : Laws K) {k : Matrix} {got : List Bool}
       w = filling K k got syms s.rows y
 
   -- every codeword that agrees is one, by its symbols at the free pivots
-  pub filling_only : (w : List S) → Agreeing K k got syms w → (y : ℕ → S) → Off_used K s.rows y → ((c : ℕ) → 1 ≤ occ c s.free → at K w c ≡ y c)
+  pub filling_only : (w : List S) → Agreeing K k got syms w → (y : ℕ → S) → OffUsed K s.rows y → ((c : ℕ) → 1 ≤ occ c s.free → at K w c ≡ y c)
       → w ≡ filling K k got syms s.rows y
   filling_only w g y off same =
       ext_get_or K.zero w (filling K k got syms s.rows y)
@@ -77,7 +77,7 @@ module _ {S P : Type 0} {K : Kind S} (L : Laws K) {k : Matrix} {got : List Bool}
           let mc = missing_from got c (omega (arith, g.codeword.wide, d.wide)) h in
           value_only L d.ended (at K w) (meets w g) y off same c mc ∙ sym (filling_missing y c mc)
 
-  pub single_off : (x : S) (f : ℕ) → 1 ≤ occ f s.free → Off_used K s.rows (single K x f)
+  pub single_off : (x : S) (f : ℕ) → 1 ≤ occ f s.free → OffUsed K s.rows (single K x f)
   single_off x f o c u =
       ap (λ b. cond b x K.zero) (ne_eqb c f (λ z. omega (arith, (free_is d.ended f o).1, ap (λ d. used_count d s.rows) z)))
 
@@ -160,7 +160,7 @@ module _ {S : Type 0} {K : Kind S} (L : Laws K) {P : Type 0} where
       → Search K k got syms (final K choice k got syms p)
   final_search choice naming k ok got wide syms p = record { lawful = ok; wide = wide; ended = final_fine L choice naming k got wide syms p }
 
-  pub tells_exactly : Tells_exactly S K P
+  pub tells_exactly : TellsExactly S K P
   unfolding answer method
   tells_exactly choice naming k ok got wide syms p = exactly (Agreeing K k got syms) (method K choice k got syms p) (go (lowest (clash K) s.rows) refl s.free refl)
     where
@@ -176,5 +176,5 @@ module _ {S : Type 0} {K : Kind S} (L : Laws K) {P : Type 0} where
       go None q [] f = tells_one L d (no_clash L d q) (λ c. ap (occ c) f)
       go None q (g ∷ gs) f = tells_several L d (no_clash L d q) g (omega (arith, ap (occ g) f, occ_self g gs))
 
-  pub final_state : Final_state S K P
+  pub final_state : FinalState S K P
   final_state choice naming k ok got wide syms p = ended_settled (final_fine L choice naming k got wide syms p)

@@ -1,12 +1,12 @@
 -- What is said of every search, whatever the policy, the code, the received places and their symbols.
 --
---   Tells_exactly               the answer is none, one or several exactly when no, just one, at least two codewords agree
---   Pivots_tell                 no pivot is named exactly when no stopping set lies among the missing places
---   Named_in_turn               the pivots are columns named in turn, each where peeling stalls
---   Policy_alters_no_answer     with another policy the answer differs in the counts of its work only
---   Shortfall_by_places_alone   the number of free pivots goes by the code and the missing places alone
+--   TellsExactly               the answer is none, one or several exactly when no, just one, at least two codewords agree
+--   PivotsTell                 no pivot is named exactly when no stopping set lies among the missing places
+--   ColumnsNamedInTurn               the pivots are columns named in turn, each where peeling stalls
+--   PolicyAltersNoAnswer     with another policy the answer differs in the counts of its work only
+--   ShortfallByPlacesAlone   the number of free pivots goes by the code and the missing places alone
 --   Doubles                     of symbols with two values, twice as many codewords agree for each free pivot
---   Final_state                 what the rows have come to at the end
+--   FinalState                 what the rows have come to at the end
 --   Policies-name               the policies defined here keep the law of a policy
 use Rattle.std.specs.Prelude.{◌≡◌, ◌^◌, Bool, false, ◌⊎◌, ◌↔◌, List, length}
 use Rattle.symbols.specs.Kinds.{Kind}
@@ -18,49 +18,49 @@ use Rattle.method.specs.Fillings.{Agreeing, No, Exactly, pivots_of, uncounted, s
 use Rattle.method.specs.Stopping.{Stopping, NamedInTurn}
 use Rattle.method.specs.Settled.{Settled}
 
-abbrev pub Tells_exactly : (S : Type 0) → Kind S → Type 0 → Type 0
-Tells_exactly S K P =
+abbrev pub TellsExactly : (S : Type 0) → Kind S → Type 0 → Type 0
+TellsExactly S K P =
     (choice : Choice P) → Naming choice
     → (k : Matrix) → Lawful k → (got : List Bool) → length got ≡ k.width → (syms : List S) (p : P)
     → Exactly (Agreeing K k got syms) (method K choice k got syms p)
 
-abbrev pub Pivots_tell : (S : Type 0) → Kind S → Type 0 → Type 0
-Pivots_tell S K P =
+abbrev pub PivotsTell : (S : Type 0) → Kind S → Type 0 → Type 0
+PivotsTell S K P =
     (choice : Choice P) → Naming choice
     → (k : Matrix) → Lawful k → (got : List Bool) → length got ≡ k.width → (syms : List S) (p : P)
     → (pivots_of (method K choice k got syms p) ≡ 0) ↔ No (Stopping k (has (missing got)))
 
-abbrev pub Named_in_turn : (S : Type 0) → Kind S → Type 0 → Type 0
-Named_in_turn S K P =
+abbrev pub ColumnsNamedInTurn : (S : Type 0) → Kind S → Type 0 → Type 0
+ColumnsNamedInTurn S K P =
     (choice : Choice P) → Naming choice
     → (k : Matrix) → Lawful k → (got : List Bool) → length got ≡ k.width → (syms : List S) (p : P)
     → NamedInTurn k (has (missing got)) (final K choice k got syms p).pivots
 
-abbrev pub Policy_alters_no_answer : (S : Type 0) → Kind S → (P Q : Type 0) → Type 0
-Policy_alters_no_answer S K P Q =
+abbrev pub PolicyAltersNoAnswer : (S : Type 0) → Kind S → (P Q : Type 0) → Type 0
+PolicyAltersNoAnswer S K P Q =
     (choice : Choice P) → Naming choice → (other : Choice Q) → Naming other
     → (k : Matrix) → Lawful k → (got : List Bool) → length got ≡ k.width → (syms : List S) (p : P) (q : Q)
     → uncounted (method K choice k got syms p) ≡ uncounted (method K other k got syms q)
 
-abbrev pub Shortfall_by_places_alone : (S : Type 0) → Kind S → Type 0 → (S' : Type 0) → Kind S' → Type 0 → Type 0
-Shortfall_by_places_alone S K P S' K' P' =
+abbrev pub ShortfallByPlacesAlone : (S : Type 0) → Kind S → Type 0 → (S' : Type 0) → Kind S' → Type 0 → Type 0
+ShortfallByPlacesAlone S K P S' K' P' =
     (choice : Choice P) → Naming choice → (other : Choice P') → Naming other
     → (k : Matrix) → Lawful k → (got : List Bool) → length got ≡ k.width
     → (syms : List S) (p : P) (symbols : List S') (q : P')
     → length (final K choice k got syms p).free ≡ length (final K' other k got symbols q).free
 
-abbrev pub Two_valued : {S : Type 0} → Kind S → Type 0
-Two_valued {S} K = (x : S) → (x ≡ K.zero) ⊎ (x ≡ K.unit)
+abbrev pub TwoValued : {S : Type 0} → Kind S → Type 0
+TwoValued {S} K = (x : S) → (x ≡ K.zero) ⊎ (x ≡ K.unit)
 
 abbrev pub Doubles : (S : Type 0) → Kind S → Type 0 → Type 0
 Doubles S K P =
-    Two_valued K → (choice : Choice P) → Naming choice
+    TwoValued K → (choice : Choice P) → Naming choice
     → (k : Matrix) → Lawful k → (got : List Bool) → length got ≡ k.width → (syms : List S) (p : P)
     → says_none (method K choice k got syms p) ≡ false
     → Listing (Agreeing K k got syms) (2 ^ length (final K choice k got syms p).free)
 
-abbrev pub Final_state : (S : Type 0) → Kind S → Type 0 → Type 0
-Final_state S K P =
+abbrev pub FinalState : (S : Type 0) → Kind S → Type 0 → Type 0
+FinalState S K P =
     (choice : Choice P) → Naming choice
     → (k : Matrix) → Lawful k → (got : List Bool) → length got ≡ k.width → (syms : List S) (p : P)
     → Settled K (missing got) (final K choice k got syms p)

@@ -5,7 +5,7 @@ use quasi_cyclic::QuasiCyclic;
 mod making;
 mod questions;
 
-// The listed code or the quasi_cyclic one, whichever is meant.
+// The listed code or the quasi-cyclic one, whichever is meant.
 #[derive(Clone, Copy)]
 pub(crate) struct BaseCode<'a> {
     listed: Listed<'a>,

@@ -3,7 +3,7 @@ use Rattle.std.proofs.Common.{◌≡◌, ℕ, zero, suc, ◌+◌, ◌/◌, ◌%�
 use Rattle.std.proofs.lemmas.List.FromFn.{get_or-map-range_with_len, length-map-range_with_len}
 use Rattle.std.proofs.lemmas.List.{same_lists, ext_get_or, get_or_past, set_past, get_or-replicate, length-replicate}
 use Rattle.std.proofs.lemmas.Bool.{cases_eq, cases_lt, cases_order, eq-eqb, ne_eqb, both_ways, and_left, and_right}
-use Rattle.bits.specs.Sets.{holds, differ, bit, ands, Least}
+use Rattle.bits.specs.Sets.{holds, differ, bit, ands, Put, Least}
 use Rattle.bits.proofs.Held.{differ_none, holds_ands}
 use Rattle.bits.proofs.Found.{least_like}
 use Rattle.bits.proofs.Word.{bit_zero}
@@ -157,3 +157,9 @@ least_same p (Some c) (Some d) h k =
 pub lowest_marked : (n : ℕ) (ws : List ℕ) → ((c : ℕ) → n ≤ c → holds ws c ≡ false) → (r : Option ℕ) → Least (holds ws) r → r ≡ lowest (λ b. b) (marks_of n ws)
 lowest_marked n ws within r h =
     least_same (has (marks_of n ws)) r (lowest (λ b. b) (marks_of n ws)) (least_like (has (marks_of n ws)) (holds ws) (has_marks_of n ws within) r h) (lowest_least (marks_of n ws))
+
+-- a number below the width put into the words of a set
+pub marked : (s : Columns) (k : ℕ) (ws' : List ℕ) → k < s.width → Put k s.words ws' → marks_of s.width ws' ≡ set (shown s) k true
+marked s k ws' h p =
+    let l : k / 64 < length s.words = omega (arith, s.narrow, s.eight, h) in
+    marks_changed s.words ws' k true (in_at s.words ws' k (p.within l)) (in_other s.words ws' k (p.within l)) s.width

@@ -6,7 +6,7 @@
 --   Connected         a connected component: active columns joined with one another and with no other
 --   size              how many columns a set has
 --   Leads             the lowest column of a component, where none is larger and none as large has a lower column
---   Heaviest_is_heavy     what heaviest names is heavy
+--   HeaviestIsHeavy     what heaviest names is heavy
 --   Component-leads       what component names leads a component, and the policy below stays as it is; without an edge
 --                         that policy is asked
 use Rattle.std.specs.Prelude.{◌≡◌, ℕ, ◌≤◌, Bool, true, ◌≢◌, ◌⊎◌, List, length, Some}
@@ -51,8 +51,8 @@ pub record Leads (k : Matrix) (a u : List Bool) (c : ℕ) : Type 0 where
   pub largest : (t : ℕ → Bool) → Connected k a u t → size a t ≤ size a set
   pub tie : (t : ℕ → Bool) → Connected k a u t → size a t ≡ size a set → (d : ℕ) → t d ≡ true → c ≤ d
 
-abbrev pub Heaviest_is_heavy : Type 0
-Heaviest_is_heavy = (k : Matrix) (a u : List Bool) (c : ℕ) → heaviest k a u ≡ Some c → Heavy k a u c
+abbrev pub HeaviestIsHeavy : Type 0
+HeaviestIsHeavy = (k : Matrix) (a u : List Bool) (c : ℕ) → heaviest k a u ≡ Some c → Heavy k a u c
 
 pub record Component-leads (P : Type 0) : Type 0 where
   pub leads : (k : Matrix) → Lawful k → (below : Choice P) (p : P) (a u : List Bool) (x y : ℕ) → Linked k a u x y

@@ -1,5 +1,5 @@
 // What a set of columns is asked, and how it changes.
-ghost use Rattle.std.specs.Prelude.{◌≡◌, ℕ, ◌<◌, ◌≤◌, min, true, false, set, replicate, slice_set};
+ghost use Rattle.std.specs.Prelude.{◌≡◌, ℕ, ◌<◌, ◌≤◌, min, true, false, replicate, slice_set};
 ghost use Rattle.bits.specs.Sets.{holds};
 ghost use Rattle.method.specs.Sets.{has, meet, lowest};
 ghost use Rattle.policies.specs.Shown.{marks_of, shown};

@@ -1,9 +1,9 @@
 // What the policies name, as theorems in the words of weights and graphs.
-ghost use Rattle.policies.specs.Relations.{Heaviest_is_heavy, Component-leads};
+ghost use Rattle.policies.specs.Relations.{HeaviestIsHeavy, Component-leads};
 
 // No active column is heavier than the one that heaviest names, and no lower one as heavy.
 pub fn heaviest_is_heavy() -> u8
-    ensures { Heaviest_is_heavy }
+    ensures { HeaviestIsHeavy }
 {
     0
 }

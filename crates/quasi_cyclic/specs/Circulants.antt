@@ -1,4 +1,4 @@
--- What a quasi_cyclic code means, and what is known of the entries that give one of its rows.
+-- What a quasi-cyclic code means, and what is known of the entries that give one of its rows.
 --
 --   circulant_matrix   the matrix that its base entries give
 use Rattle.codes.specs.Matrix.{Matrix}

@@ -1,4 +1,4 @@
--- A quasi_cyclic code: what its base entries mean, and which entries may be one.
+-- A quasi-cyclic code: what its base entries mean, and which entries may be one.
 --
 --   shift_of         the shift of an entry's square, none where the square is empty
 --   filled           the ones in each row of a square

@@ -1,9 +1,9 @@
 -- Base entries in range make a lawful code. (Lemmas: nothing here is to be believed.)
 --
---   Sizes, sizes          the bounds that `base-fits` tells
+--   Sizes, sizes          the bounds that `base_fits` tells
 --   whole_line            the entries of a line lie within the list
 --   line_length           a row has a column for each square that is not empty
---   circulant_ones, circulant_lawful    the ones of a quasi_cyclic code, and that it is lawful
+--   circulant_ones, circulant_lawful    the ones of a quasi-cyclic code, and that it is lawful
 use Rattle.std.specs.Prelude.{◌≡◌, ℕ, zero, suc, ◌+◌, ◌*◌, ◌/◌, ◌%◌, ◌<◌, ◌≤◌, true, ◌&&◌, List, [], ◌∷◌, ◌++◌, length, take, drop, ℤ, pos, Some, None, Option, ◌==◌, nat_le, slice_index_or, refl}
 use Rattle.std.proofs.Common.{sym, ap, ◌∙◌, arith, zero-mul, suc-mul, mul_comm, mul-le-mul_right}
 use Rattle.std.specs.List.{AllByRecursion}

@@ -1,4 +1,4 @@
-// The edges of a quasi_cyclic code: what its making refuses, and what it then answers.
+// The edges of a quasi-cyclic code: what its making refuses, and what it then answers.
 use crate::circulant::QuasiCyclic;
 use codes::{Code, Refusal, Rows};
 use std::test::Fail;

@@ -1,4 +1,4 @@
-// What the definition of a quasi_cyclic code gives, as a theorem.
+// What the definition of a quasi-cyclic code gives, as a theorem.
 ghost use Rattle.std.specs.Prelude.{◌≡◌, ℕ, true, List, length, ℤ};
 ghost use Rattle.quasi_cyclic.specs.Entries.{base_fits};
 ghost use Rattle.quasi_cyclic.specs.SquareRows.{OneToASquare};

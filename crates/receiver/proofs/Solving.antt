@@ -25,7 +25,7 @@ use Rattle.receiver.specs.declared.permit.Permit.{Permit}
 use Rattle.receiver.specs.Calls.{refusal, is_out}
 use Rattle.receiver.specs.Calls.Call.{solve}
 use Rattle.receiver.specs.Blocks.{Block, seen, fill_missing, with_table}
-use Rattle.receiver.specs.Solves.{Sought, Sought_by, as_unsolved, search_of, found_of, after_search, answer_of, outcome, solved, solved_by}
+use Rattle.receiver.specs.Solves.{Sought, SoughtBy, as_unsolved, search_of, found_of, after_search, answer_of, outcome, solved, solved_by}
 use Rattle.receiver.proofs.Refusing.{no_cause}
 use Rattle.receiver.proofs.Zeroing.{fill_same, fill_places}
 
@@ -86,7 +86,7 @@ module _ {S P : Type 0} (K : Kind S) (choice : Matrix → Choice P) (k : Matrix)
   granted_reached f s = go (is_out m.out) (eqb k.width m.n) refl s
     where
       go : (out same : Bool) → eqb k.width m.n ≡ same
-          → Sought_by K choice k m (cond out (Some (fault.PermitOut m.stamp)) (cond (not same) (Some (fault.OtherWidth k.width)) None)) p p' ws ws' ss ss' (Ok f)
+          → SoughtBy K choice k m (cond out (Some (fault.PermitOut m.stamp)) (cond (not same) (Some (fault.OtherWidth k.width)) None)) p p' ws ws' ss ss' (Ok f)
           → (k.width ≡ m.n) × (cond out (Some (fault.PermitOut m.stamp)) (cond (not same) (Some (fault.OtherWidth k.width)) (cond (short (height k) (length ws) (length ss)) (Some (fault.ShortMemory (height k))) None)) ≡ None)
           × Looked K choice k m.received (take m.n m.table) p ws ss p' ws' ss' (Ok f)
       go true same e u = let z : ◌≡◌ {A = ℕ} 0 1 = let q = u.0 in cc in absurd (omega arith)
@@ -141,7 +141,7 @@ module _ {S P : Type 0} (K : Kind S) (choice : Matrix → Choice P) (k : Matrix)
       kept f v = λ i. record { answer = Err (ap (why u) v.0 i); block = m; policy = v.1 i; words = v.2 i; sides = v.3 i }
 
       go : (out same : Bool) → eqb k.width m.n ≡ same
-          → Sought_by K choice k m (cond out (Some (fault.PermitOut m.stamp)) (cond (not same) (Some (fault.OtherWidth k.width)) None)) p p' ws ws' ss ss' (Err u)
+          → SoughtBy K choice k m (cond out (Some (fault.PermitOut m.stamp)) (cond (not same) (Some (fault.OtherWidth k.width)) None)) p p' ws ws' ss ss' (Err u)
           → record { answer = Err u; block = m; policy = p'; words = ws'; sides = ss' } ≡ solved_by K choice k m p (cond out (Some (fault.PermitOut m.stamp)) (cond (not same) (Some (fault.OtherWidth k.width)) (cond (short (height k) (length ws) (length ss)) (Some (fault.ShortMemory (height k))) None))) ws ss
       go true same e v = kept (fault.PermitOut m.stamp) v
       go false false e v = kept (fault.OtherWidth k.width) v

@@ -3,7 +3,8 @@
 --   Block         the values of a block
 --   seen          what decides a refusal, by the block's values
 --   received_count, mark_at, told_refusal    what a block tells of itself
---   filled, closed_block, renewed_block, fresh-block    the block after a granted call
+--   filled, closed_block, renewed_block    the block after a granted call
+--   opened_by, opened    the block that an open answers, by its refusal or the first cause that refuses it
 --   fill_missing, zero_missing    a table with each missing place filled, or zero
 use Rattle.std.specs.Prelude.{ℕ, suc, Bool, true, false, cond, List, [], ◌∷◌, ◌++◌, length, take, drop, replicate, Some, None, count_by, Option, ◌==◌, nat_lt, slice_index_or, slice_set}
 use Rattle.symbols.specs.Kinds.{Kind}

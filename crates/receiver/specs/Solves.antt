@@ -101,12 +101,12 @@ seek_causes K k m =
     ∷ []
 
 -- a search that was refused changes nothing; one that ran is still to be read out of the right sides
-abbrev pub Sought_by : {S P : Type 0} → Kind S → (Matrix → Choice P) → Matrix → Block S → Option Fault → P → P → List ℕ → List ℕ → List S → List S → Result Seen Unsolved → Type 0
-Sought_by K choice k m (Some f) p p' ws ws' ss ss' r = (r ≡ Err (Refused f)) × (p' ≡ p) × (ws' ≡ ws) × (ss' ≡ ss)
-Sought_by K choice k m None p p' ws ws' ss ss' (Ok f) = Looked K choice k m.received (take m.n m.table) p ws ss p' ws' ss' (Ok f)
-Sought_by K choice k m None p p' ws ws' ss ss' (Err u) =
+abbrev pub SoughtBy : {S P : Type 0} → Kind S → (Matrix → Choice P) → Matrix → Block S → Option Fault → P → P → List ℕ → List ℕ → List S → List S → Result Seen Unsolved → Type 0
+SoughtBy K choice k m (Some f) p p' ws ws' ss ss' r = (r ≡ Err (Refused f)) × (p' ≡ p) × (ws' ≡ ws) × (ss' ≡ ss)
+SoughtBy K choice k m None p p' ws ws' ss ss' (Ok f) = Looked K choice k m.received (take m.n m.table) p ws ss p' ws' ss' (Ok f)
+SoughtBy K choice k m None p p' ws ws' ss ss' (Err u) =
     (e : Unfound) × (u ≡ as_unsolved e) × Looked K choice k m.received (take m.n m.table) p ws ss p' ws' ss' (Err e)
 
 abbrev pub Sought : {S P : Type 0} → Kind S → (Matrix → Choice P) → Matrix → Block S → P → P → List ℕ → List ℕ → List S → List S → Result Seen Unsolved → Type 0
 Sought K choice k m p p' ws ws' ss ss' r =
-    Sought_by K choice k m (first_of (seek_causes K k m)) p p' ws ws' ss ss' r
+    SoughtBy K choice k m (first_of (seek_causes K k m)) p p' ws ws' ss ss' r

@@ -5,7 +5,7 @@
 --   Tied          the block's values are what the calls and answers tell
 --   Stands        the events were true, and the block is tied to them
 --   GoesOn        whatever history stands of a block, with this event more it stands of the block after it
-use Rattle.std.specs.Prelude.{◌≡◌, ℕ, ◌<◌, ◌≤◌, false, List, ◌++◌, length, get_or, Some, None, Option, slice_index_or}
+use Rattle.std.specs.Prelude.{◌≡◌, ℕ, ◌<◌, ◌≤◌, false, List, ◌++◌, length, Some, None, Option, slice_index_or}
 use Rattle.std.specs.List.{AllByRecursion}
 use Rattle.symbols.specs.Kinds.{Kind}
 use Rattle.method.specs.Fillings.{Only}
@@ -20,7 +20,7 @@ module _ {S : Type 0} (K : Kind S) where
   pub record Kept (m : Block S) (k : Packet S) : Type 0 where
     pub stamp_is : k.stamp ≡ m.stamp
     pub below : k.place < m.n
-    pub symbol_is : get_or m.table k.place K.zero ≡ k.symbol
+    pub symbol_is : slice_index_or m.table k.place K.zero ≡ k.symbol
 
   -- w is the codeword that a granted solve found
   abbrev pub IsFound : Option (Solved S) → List S → Type 0

@@ -1,8 +1,7 @@
 -- What each call does to a block, told as an event: a call with its answer.
 --
 --   Step          the first cause that refuses a call refuses it and leaves the block; a granted call does its work
---   Follows       the events of a list, newest first, one step after another
---   receive_event, packet_event, show_event, close_event, renew_event    the event that a call and its answer make
+--   receive_event, show_event, close_event, renew_event    the event that a call and its answer make
 use Rattle.std.specs.Prelude.{◌≡◌, ℕ, false, Some, None, Ok, Err, Result, ◌==◌, slice_index_or}
 use Rattle.symbols.specs.Kinds.{Kind}
 use Rattle.receiver.specs.declared.fault.Fault.{Fault}
@@ -15,7 +14,7 @@ use Rattle.receiver.specs.History.{Event}
 use Rattle.receiver.specs.History.Event.{refused, unread, received, searched, shown, closed, renewed}
 use Rattle.receiver.specs.Blocks.{Block, seen, filled, closed_block, renewed_block}
 
--- A search is no matter of the block alone: Searches says what a solve does.
+-- A search is no matter of the block alone: Solves says what a solve does.
 abbrev pub Step : {S : Type 0} → Kind S → Block S → Event S → Block S → Type 0
 Step K m (refused c f) m' = (refusal K (seen m) c ≡ Some f) × (m' ≡ m)
 Step K m (unread s n) m' = ((n == 68) ≡ false) × (m' ≡ m)

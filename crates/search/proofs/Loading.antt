@@ -8,7 +8,7 @@ use Rattle.bits.specs.Sets.{holds, Put, row, put_row}
 use Rattle.bits.proofs.Rows.{row_put_same, row_put_other}
 use Rattle.symbols.specs.Kinds.{Kind}
 use Rattle.codes.specs.Matrix.{Matrix, member}
-use Rattle.codes.specs.Matrix.{Row as Lawful-row}
+use Rattle.codes.specs.Matrix.{Row as LawfulRow}
 use Rattle.method.specs.Sets.{has, count, marks, kept_if, marked}
 use Rattle.method.specs.Method.{missing}
 use Rattle.method.proofs.Counts.{count_clear, none_count, count_le}
@@ -51,17 +51,17 @@ append_none [] = refl
 append_none (x ∷ xs) = ap (λ ys. x ∷ ys) (append_none xs)
 
 -- a row's columns: different, below the width, and so no more than it
-pub count_marks : (n : ℕ) (xs : List ℕ) → Lawful-row n xs → count (marks n xs) ≡ length xs
+pub count_marks : (n : ℕ) (xs : List ℕ) → LawfulRow n xs → count (marks n xs) ≡ length xs
 count_marks n [] h = none_count (marks n []) (marks_none n)
 count_marks n (x ∷ xs) h =
     let in' : has (marks n (x ∷ xs)) x ≡ true = has_marks n (x ∷ xs) x h.within.0 ∙ ap (λ b. b || member x xs) (eq-eqb x x refl) in
     sym (count_clear (marks n (x ∷ xs)) x in')
     ∙ ap suc (count_same _ _ (marks_less n x xs h.within.0 h.apart.0) ∙ count_marks n xs (record { within = h.within.1; apart = h.apart.1 }))
 
-pub row_short : (n : ℕ) (xs : List ℕ) → Lawful-row n xs → length xs ≤ n
+pub row_short : (n : ℕ) (xs : List ℕ) → LawfulRow n xs → length xs ≤ n
 row_short n xs h = omega (arith, count_marks n xs h, count_le (marks n xs), length_table n (λ c. member c xs))
 
-pub lawful_row : (n : ℕ) (rows : List (List ℕ)) → AllByRecursion (Lawful-row n) rows → (r : ℕ) → Lawful-row n (get_or rows r [])
+pub lawful_row : (n : ℕ) (rows : List (List ℕ)) → AllByRecursion (LawfulRow n) rows → (r : ℕ) → LawfulRow n (get_or rows r [])
 lawful_row n [] h r = record { within = tt; apart = tt }
 lawful_row n (row ∷ rows) h zero = h.0
 lawful_row n (row ∷ rows) h (suc r) = lawful_row n rows h.1 r

@@ -85,13 +85,13 @@ module _ {S : Type 0} (g : Setting S) where
   shown_by : (m : Block S) (q other : Option Permit) (a : Permit) (p : ℕ) (hand : Hand) (e : Entry S) → in_which hand q other ≡ Some a → ShownUnder g.kind m a p e → Acted g m m q q other (order.Show p hand) e
   shown_by m q other a p hand e is w = record {
     tells = λ h. show_event a p (copied g.kind.zero w.answer) (shown_answer w.answer) ∷ h;
-    acts = λ c o h ds. subst (λ t. Acts_show t c o h ds) (sym is) (w.answer, m, w.entered, w.step, refl);
+    acts = λ c o h ds. subst (λ t. ActsShow t c o h ds) (sym is) (w.answer, m, w.entered, w.step, refl);
     history = w.history;
     holding = λ h. h;
   }
     where
-      Acts_show : Option Permit → Bool → Option Opened → List (Event S) → List (Day S) → Type 0
-      Acts_show t c o h ds = Shows g.kind t p (side c m q o h ds) e (side c m q o (show_event a p (copied g.kind.zero w.answer) (shown_answer w.answer) ∷ h) ds)
+      ActsShow : Option Permit → Bool → Option Opened → List (Event S) → List (Day S) → Type 0
+      ActsShow t c o h ds = Shows g.kind t p (side c m q o h ds) e (side c m q o (show_event a p (copied g.kind.zero w.answer) (shown_answer w.answer) ∷ h) ds)
 
   pub shown : (m : Block S) (q other hand_held : Option Permit) (p : ℕ) (hand : Hand) (e : Entry S) → in_which hand q other ≡ hand_held → ShownIn g.kind m hand_held p e → Acted g m m q q other (order.Show p hand) e
   shown m q other (Some a) p hand e is w = shown_by m q other a p hand e is w

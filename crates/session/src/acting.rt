@@ -8,7 +8,7 @@ ghost use Rattle.receiver.specs.Blocks.{seen};
 ghost use Rattle.receiver.specs.View.{model};
 ghost use Rattle.session.specs.Holding.{Holding};
 ghost use Rattle.session.specs.declared.order.Hand.TheVariants.{Own, Other};
-ghost use Rattle.session.specs.Obeying.{setting, Acted, is_open, ShownUnder, ShownIn, CloseRefused, FreeFor, solved_entry, hand_after, alike as numbers-alike};
+ghost use Rattle.session.specs.Obeying.{setting, Acted, is_open, ShownUnder, ShownIn, CloseRefused, FreeFor, solved_entry, hand_after, alike as numbers_alike};
 ghost use Rattle.session.specs.Sides.{Memory, memory_of, pile_at};
 
 use crate::carried::Carried;
@@ -133,7 +133,7 @@ fn obey_close<S: Carried>(block: &mut Block<'_, S>, held: Option<Permit>) -> Ent
 
 // Whether two permits have the same numbers.
 fn alike(held: &Option<Permit>, permit: &Permit) -> bool
-    ensures { result ≡ numbers-alike held.now permit.now }
+    ensures { result ≡ numbers_alike held.now permit.now }
 {
     match held {
         Some(own) => own.number() == permit.number() && own.stamp() == permit.stamp(),

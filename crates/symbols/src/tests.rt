@@ -57,7 +57,7 @@ fn a_cell_is_not_zero_by_its_last_byte(rt: HostRuntime) {
 
 #[test]
 fn a_dated_cell_sums_in_both_parts(rt: HostRuntime) {
-    let unit: Dated = <crate::kinds::Pair<_, _> as Symbol>::unit();
+    let unit: Dated = <Dated as Symbol>::unit();
     let unit_byte = unit.first.bytes[0];
     assert_eq!(rt; unit_byte, 1);
     assert_eq!(rt; unit.second.value, 0);

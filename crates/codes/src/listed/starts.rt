@@ -7,7 +7,8 @@ use crate::shape::ROW_ENDS;
 
 // The first place from p on that is not of a row below r, where all places before p are of such rows.
 fn pass(records: &[Record], p: usize, r: usize) -> usize
-    requires { (p ≤ length records.now) × (((k : ℕ) → k < p → row_of records.now k < r)) }
+    requires within { p ≤ length records.now }
+    requires before { (k : ℕ) → k < p → row_of records.now k < r }
     ensures within { result ≤ length records.now }
     ensures before { (k : ℕ) → k < result → row_of records.now k < r }
     ensures place { result ≡ lower records.now r }

@@ -1,4 +1,4 @@
-// Making a quasi_cyclic code: the caller's base entries are judged once, and read from then on.
+// Making a quasi-cyclic code: the caller's base entries are judged once, and read from then on.
 ghost use Rattle.std.specs.Prelude.{◌≡◌, [], ◌∷◌, negsuc, MatchResult};
 ghost use Rattle.codes.specs.Refusals.{told};
 ghost use Rattle.quasi_cyclic.specs.Circulants.{circulant_matrix};

@@ -1,4 +1,4 @@
-// The questions to a quasi_cyclic code, answered from the line of squares that holds the row.
+// The questions to a quasi-cyclic code, answered from the line of squares that holds the row.
 ghost use Rattle.std.specs.Prelude.{◌≡◌, ℕ, ◌*◌, ◌<◌, ◌≤◌, true, length, pos, slice_index_or};
 ghost use Rattle.std.specs.List.{slice_get};
 ghost use Rattle.codes.specs.Matrix.{height, ones};
