@@ -65,7 +65,7 @@ HEAD = re.compile(r"(?<![^\s(){},;@\"«»])(?:c|w|l|g|goal)\.$")
 
 
 def spelled(name):
-    if name not in APART and name[0].isupper():
+    if name not in APART and "A" <= name[0] <= "Z":
         return "".join(part[0].upper() + part[1:] for part in re.split("[-_]", name))
     return APART.get(name, name.replace("getD", "get_or").replace("sumBy", "sum_by").replace("-", "_"))
 
