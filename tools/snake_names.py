@@ -14,7 +14,7 @@ import re
 import sys
 
 TOKEN = re.compile(r"[^\s(){}.;,@\"«»\[\]\\`]+")
-DECLARED = re.compile(r"(?m)^\s*(?:(?:pub|abbrev|unfoldable|private|let|record|data)\s+)*([^\s(){}.;,:]+)\s+(?:\{[^{}\n]*\}\s*)*:(?=\s)(?! goal\.)")
+DECLARED = re.compile(r"(?m)^\s*(?:(?:pub|abbrev|unfoldable|private|let|record|data)\s+)*([^\s(){}.;,:]+)\s+(?:(?:\{[^{}\n]*\}|\([^()\n]*\))\s*)*:(?=\s)(?! goal\.)")
 BINDER = re.compile(r"[({]((?:[^\s(){}.;,:]+ )+):")
 LET = re.compile(r"\blet ([^\s(){}.;,:]+) *(?::|=)")
 IMPORT = re.compile(r"(?m)^(?:ghost )?use (\S+?)\.\{([^}]*)\}")
@@ -32,7 +32,7 @@ def read(path):
 
 
 def is_turned(name):
-    return re.fullmatch(r"[A-Z][a-z]+(?:_[a-z]+)+|[^\W\d_][\w']*(?:-[\w'ℕℤ]+)+|\w*(?:getD|sumBy)\w*", name) is not None
+    return re.fullmatch(r"[A-Z][A-Za-z]+(?:_[a-z]+)+|[^\W\d_][\w']*(?:-[\w'ℕℤ]+)+|\w*(?:getD|sumBy)\w*", name) is not None
 
 
 def declared(all_texts):
@@ -57,7 +57,7 @@ def of_libraries(text):
 # Plain underscores would give these a name that a library's definition beside them has.
 APART = {"bit-and": "bit_of_and", "bit-or": "bit_of_or", "bit-xor": "bit_of_xor", "put-mid": "put_mid_is", "Named-in-turn": "ColumnsNamedInTurn", "Named_in_turn": "ColumnsNamedInTurn"}
 # Names that are bound where no pattern above sees them.
-BOUND = {"some-m", "few-m", "some-n", "few-n", "with-word", "numbers-alike", "Lawful-row"}
+BOUND = {"some-m", "few-m", "some-n", "few-n", "with-word", "numbers-alike", "Lawful-row", "places-in", "no-free"}
 # Words of comments.
 PROSE = {"quasi-cyclic": "code"}
 # What comes right behind these, in an Answers or Invariants file, is a name that Rattle makes.

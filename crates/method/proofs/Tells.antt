@@ -107,9 +107,9 @@ module _ {S P : Type 0} {K : Kind S} (L : Laws K) {k : Matrix} {got : List Bool}
   filled_is = λ i. table k.width (λ c. cond (has got c) (at K syms c) (right_value c i))
 
   tells_one : Clean K s.rows → ((c : ℕ) → occ c s.free ≡ 0) → Only (Agreeing K k got syms) (filled K k.width got syms s.rows)
-  tells_one clean no-free =
+  tells_one clean no_free =
       subst (Only (Agreeing K k got syms)) (sym filled_is)
-      (filling_agrees clean (λ _. K.zero) (λ c u. refl), λ w g. filling_only w g (λ _. K.zero) (λ c u. refl) (λ c o. absurd (omega (arith, no-free c))))
+      (filling_agrees clean (λ _. K.zero) (λ c u. refl), λ w g. filling_only w g (λ _. K.zero) (λ c u. refl) (λ c o. absurd (omega (arith, no_free c))))
 
   tells_several : Clean K s.rows → (f : ℕ) → 1 ≤ occ f s.free → Two (Agreeing K k got syms)
   tells_several clean f o = (of K.zero, of K.unit, fits K.zero, fits K.unit, λ z. L.distinct (sym (at_f K.unit) ∙ ap (λ w. at K w f) (sym z) ∙ at_f K.zero))

@@ -6,7 +6,7 @@ use Rattle.codes.specs.Matrix.{Matrix, height}
 use Rattle.method.specs.Sets.{has, lowest}
 use Rattle.method.specs.Method.{Choice}
 use Rattle.method.specs.Choices.{Names, Naming, first, better, top_to, top, column_weight, joins, label, labels, size_of, largest_of, or_below, component, or_asked, replay_at, replay}
-use Rattle.method.specs.Theorems.{Policies-name}
+use Rattle.method.specs.Theorems.{PoliciesName}
 use Rattle.method.proofs.Marks.{lowest_some, lowest_none}
 
 -- b is the heaviest active column below n, and no lower one is as heavy
@@ -111,7 +111,7 @@ replay_names {P} below ok s a u = go s.0
         asked true e = e
         asked false e = ok s.1 a u
 
-pub policies_name : (P : Type 0) → Policies-name P
+pub policies_name : (P : Type 0) → PoliciesName P
 policies_name P = record {
   by_first = λ p a u. first_names a;
   by_heaviest = λ k p a u. top_names (column_weight k u) a;

@@ -1,13 +1,13 @@
 -- What is said of every search, whatever the policy, the code, the received places and their symbols.
 --
---   TellsExactly               the answer is none, one or several exactly when no, just one, at least two codewords agree
---   PivotsTell                 no pivot is named exactly when no stopping set lies among the missing places
---   ColumnsNamedInTurn               the pivots are columns named in turn, each where peeling stalls
+--   TellsExactly             the answer is none, one or several exactly when no, just one, at least two codewords agree
+--   PivotsTell               no pivot is named exactly when no stopping set lies among the missing places
+--   ColumnsNamedInTurn       the pivots are columns named in turn, each where peeling stalls
 --   PolicyAltersNoAnswer     with another policy the answer differs in the counts of its work only
 --   ShortfallByPlacesAlone   the number of free pivots goes by the code and the missing places alone
---   Doubles                     of symbols with two values, twice as many codewords agree for each free pivot
---   FinalState                 what the rows have come to at the end
---   Policies-name               the policies defined here keep the law of a policy
+--   Doubles                  of symbols with two values, twice as many codewords agree for each free pivot
+--   FinalState               what the rows have come to at the end
+--   PoliciesName             the policies defined here keep the law of a policy
 use Rattle.std.specs.Prelude.{◌≡◌, ◌^◌, Bool, false, ◌⊎◌, ◌↔◌, List, length}
 use Rattle.symbols.specs.Kinds.{Kind}
 use Rattle.codes.specs.Matrix.{Matrix, Lawful}
@@ -65,7 +65,7 @@ FinalState S K P =
     → (k : Matrix) → Lawful k → (got : List Bool) → length got ≡ k.width → (syms : List S) (p : P)
     → Settled K (missing got) (final K choice k got syms p)
 
-pub record Policies-name (P : Type 0) : Type 0 where
+pub record PoliciesName (P : Type 0) : Type 0 where
   pub by_first : Naming {P = P} (plain (λ a u. first a))
   pub by_heaviest : (k : Matrix) → Naming {P = P} (plain (heaviest k))
   pub by_component : (k : Matrix) (below : Choice P) → Naming below → Naming (component k below)

@@ -2,7 +2,7 @@
 // for every symbol kind that keeps its laws, every lawful code and every lawful policy.
 #![tactic(auto)]
 
-ghost use Rattle.method.specs.Theorems.{TellsExactly, PivotsTell, ColumnsNamedInTurn, PolicyAltersNoAnswer, ShortfallByPlacesAlone, Doubles, FinalState, Policies-name};
+ghost use Rattle.method.specs.Theorems.{TellsExactly, PivotsTell, ColumnsNamedInTurn, PolicyAltersNoAnswer, ShortfallByPlacesAlone, Doubles, FinalState, PoliciesName};
 
 use symbols::Symbol;
 
@@ -57,7 +57,7 @@ pub fn final_state<S: Symbol, P>() -> u8
 
 // First, heaviest, component over another policy and replay over another policy keep the law of a policy.
 pub fn policies_name<P>() -> u8
-    ensures { Policies-name P }
+    ensures { PoliciesName P }
 {
     0
 }

@@ -7,7 +7,7 @@ use Rattle.method.specs.Sets.{has, bump}
 use Rattle.method.specs.Choices.{Names, count_to, column_weight, heaviest, joins, label, labels, in_set, size_of, top, largest, largest_of, or_below}
 use Rattle.method.proofs.Marks.{has_below}
 use Rattle.method.proofs.Tops.{Best, top_best, top_names}
-use Rattle.policies.specs.Relations.{Linked, Joined, Connected, size, Leads, Heavy, Component-leads}
+use Rattle.policies.specs.Relations.{Linked, Joined, Connected, size, Leads, Heavy, ComponentLeads}
 use Rattle.policies.proofs.Labels.{label_low}
 use Rattle.policies.proofs.Edges.{joins_linked, edge_pair}
 use Rattle.policies.proofs.Components.{still_active, labels_joined, pair_labels, label_own, joined_labels}
@@ -154,7 +154,7 @@ largest_none k ok a u n = go (joins k a u (height k)) (joins_linked k ok a u (he
     go [] h = refl
     go (e ∷ es) h = absurd (n e.0 e.1 h.0)
 
-pub component_leads : (P : Type 0) → Component-leads P
+pub component_leads : (P : Type 0) → ComponentLeads P
 component_leads P = record {
   leads = λ k ok below p a u x y w. let t = largest_leads k ok a u x y w in (t.0, ap (λ o. or_below o p (below p a u)) t.1, t.2);
   passes_on = λ k ok below p a u n. ap (λ o. or_below o p (below p a u)) (largest_none k ok a u n);

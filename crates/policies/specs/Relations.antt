@@ -6,9 +6,9 @@
 --   Connected         a connected component: active columns joined with one another and with no other
 --   size              how many columns a set has
 --   Leads             the lowest column of a component, where none is larger and none as large has a lower column
---   HeaviestIsHeavy     what heaviest names is heavy
---   Component-leads       what component names leads a component, and the policy below stays as it is; without an edge
---                         that policy is asked
+--   HeaviestIsHeavy   what heaviest names is heavy
+--   ComponentLeads    what component names leads a component, and the policy below stays as it is; without an edge
+--                     that policy is asked
 use Rattle.std.specs.Prelude.{◌≡◌, ℕ, ◌≤◌, Bool, true, ◌≢◌, ◌⊎◌, List, length, Some}
 use Rattle.codes.specs.Matrix.{Matrix, Lawful, holds}
 use Rattle.method.specs.Sets.{has}
@@ -54,7 +54,7 @@ pub record Leads (k : Matrix) (a u : List Bool) (c : ℕ) : Type 0 where
 abbrev pub HeaviestIsHeavy : Type 0
 HeaviestIsHeavy = (k : Matrix) (a u : List Bool) (c : ℕ) → heaviest k a u ≡ Some c → Heavy k a u c
 
-pub record Component-leads (P : Type 0) : Type 0 where
+pub record ComponentLeads (P : Type 0) : Type 0 where
   pub leads : (k : Matrix) → Lawful k → (below : Choice P) (p : P) (a u : List Bool) (x y : ℕ) → Linked k a u x y
       → (c : ℕ) × (component k below p a u ≡ (Some c, p)) × Leads k a u c
   pub passes_on : (k : Matrix) → Lawful k → (below : Choice P) (p : P) (a u : List Bool) → ((x y : ℕ) → Linked k a u x y → ⊥)

@@ -15,7 +15,7 @@ use Rattle.policies.specs.Shown.{shown}
 use Rattle.policies.proofs.Marks.{length_shown}
 use Rattle.search.specs.declared.work.Work.{Work}
 use Rattle.search.specs.Loads.{Loaded, Begun, single}
-use Rattle.search.specs.Searches.{marks_in as places-in}
+use Rattle.search.specs.Searches.{marks_in as places_in}
 use Rattle.search.specs.Steps.{Going}
 use Rattle.search.specs.View.{used_if, lines, bare}
 use Rattle.search.proofs.Lines.{length_lines, line_at, unused_at}
@@ -37,13 +37,13 @@ module _ {S : Type 0} (K : Kind S) (k : Matrix) (ok : Lawful k) (received : List
   n = k.width
 
   got : List Bool
-  got = places-in k received
+  got = places_in k received
 
-  length_got : length (places-in k received) ≡ k.width
+  length_got : length (places_in k received) ≡ k.width
   length_got = length-take-le k.width received wide
 
   active_width : w.active.width ≡ k.width
-  active_width = sym (length_shown w.active) ∙ ap length begun.active ∙ length-map (places-in k received) _ ∙ length_got
+  active_width = sym (length_shown w.active) ∙ ap length begun.active ∙ length-map (places_in k received) _ ∙ length_got
 
   unused_width : w.uses.unused.width ≡ length ss
   unused_width = sym (length_shown w.uses.unused) ∙ ap length begun.unused ∙ length-replicate (length ss) true
@@ -51,20 +51,20 @@ module _ {S : Type 0} (K : Kind S) (k : Matrix) (ok : Lawful k) (received : List
   all_unused : (q : ℕ) → q < length ss → has (shown w.uses.unused) q ≡ true
   all_unused q l = ap (λ s. has s q) begun.unused ∙ get_or-replicate (length ss) q true false l
 
-  rows_are : lines K k.width ws ss w.uses ≡ start_rows K k (places-in k received) syms
+  rows_are : lines K k.width ws ss w.uses ≡ start_rows K k (places_in k received) syms
   rows_are =
       let long = length_lines K k.width ws ss w.uses in
-      ext_get_or (blank K) _ _ (long ∙ high ∙ sym (length-map k.rows (start_row K k.width (places-in k received) syms))) (λ q h.
+      ext_get_or (blank K) _ _ (long ∙ high ∙ sym (length-map k.rows (start_row K k.width (places_in k received) syms))) (λ q h.
       let l : q < length ss = omega arith in
       let read = loaded.each q l in
       line_at K k.width ws ss w.uses q l
       ∙ (λ i. record { cols = read.cols i; right = read.right i; used = used_if (all_unused q l i) (get_or w.uses.columns q 0) })
-      ∙ sym (get_or-map (start_row K k.width (places-in k received) syms) k.rows q [] (blank K) (omega (arith, high))))
+      ∙ sym (get_or-map (start_row K k.width (places_in k received) syms) k.rows q [] (blank K) (omega (arith, high))))
 
-  lines_are : lines K w.active.width ws ss w.uses ≡ start_rows K k (places-in k received) syms
+  lines_are : lines K w.active.width ws ss w.uses ≡ start_rows K k (places_in k received) syms
   lines_are = ap (λ m. lines K m ws ss w.uses) active_width ∙ rows_are
 
-  pub begun_state : bare K ws ss w ≡ start K k (places-in k received) syms tt
+  pub begun_state : bare K ws ss w ≡ start K k (places_in k received) syms tt
   begun_state =
       let p = ap (λ j. take j w.pivots.columns) begun.pivots in
       let f = ap (λ j. take j w.free.columns) begun.free in
@@ -74,7 +74,7 @@ module _ {S : Type 0} (K : Kind S) (k : Matrix) (ok : Lawful k) (received : List
   counts_are : (q : ℕ) → q < length ss → get_or w.tally.counts q 0 ≡ count (meet (row_of K (lines K w.active.width ws ss w.uses) q).cols (shown w.active))
   counts_are q l =
       let xs = row_at k q in
-      let miss = missing (places-in k received) in
+      let miss = missing (places_in k received) in
       let cols : (row_of K (lines K w.active.width ws ss w.uses) q).cols ≡ marks k.width (marked miss xs) =
       ap (λ rs. (row_of K rs q).cols) (ap (λ m. lines K m ws ss w.uses) active_width) ∙ ap (λ (x : Row S). x.cols) (line_at K k.width ws ss w.uses q l) ∙ (loaded.each q l).cols in
       ap (λ cs. get_or cs q 0) begun.counted ∙ (loaded.each q l).many

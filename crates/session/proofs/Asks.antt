@@ -10,7 +10,7 @@ use Rattle.receiver.specs.Calls.{open_refusal}
 use Rattle.receiver.specs.History.{Event, Opened}
 use Rattle.receiver.specs.Stands.{Stands, opening}
 use Rattle.session.specs.Obeying.{Setting, Acts, Acted, is_open}
-use Rattle.session.specs.Sessions.{Obeys, Asks, OpensBy, Opens, Good, Asked, DayTrue, OpenMade, OpenMade_by, retired, retired_with}
+use Rattle.session.specs.Sessions.{Obeys, Asks, OpensBy, Opens, Good, Asked, DayTrue, OpenMade, OpenMadeBy, retired, retired_with}
 use Rattle.session.specs.Sides.{Day, Side, side, Standing}
 use Rattle.session.specs.declared.order.Order.{Order}
 use Rattle.session.specs.declared.order.Order.TheVariants as order
@@ -116,7 +116,7 @@ module _ {S : Type 0} (g : Setting S) (other : Option Permit) (begun begun' : Bo
   opened_none : OpenMade g.kind b s n begun m room e begun' m' room' → Asked g other (side begun m None o h ds) room (order.Open b s n) e begun' m' None room'
   opened_none made = go (open_refusal b s n) refl made
     where
-      go : (f : Option Fault) → open_refusal b s n ≡ f → OpenMade_by g.kind f b s n begun m room e begun' m' room' → Asked g other (side begun m None o h ds) room (order.Open b s n) e begun' m' None room'
+      go : (f : Option Fault) → open_refusal b s n ≡ f → OpenMadeBy g.kind f b s n begun m room e begun' m' room' → Asked g other (side begun m None o h ds) room (order.Open b s n) e begun' m' None room'
       go (Some f) is w = record {
         opened_with = None;
         history = [];
@@ -170,8 +170,8 @@ module _ {S : Type 0} (g : Setting S) (other : Option Permit) (begun begun' : Bo
 pub open_granted : {S : Type 0} (K : Kind S) (b s n : ℕ) (begun : Bool) (m m' : Block S) (room room' : ℕ) (table : List S) → None ≡ open_refusal b s n → length table ≡ n → room' + n ≡ room → m' ≡ opened K b s table
     → (open_refusal b s (length table) ≡ None → Stands K (opening b s (length table)) [] m') → OpenMade K b s n begun m room (entry.Opened (Ok tt)) true m' room'
 open_granted {S} K b s n begun m m' room room' table none long fits is stands =
-    subst (λ f. OpenMade_by K f b s n begun m room (entry.Opened (Ok tt)) true m' room') none
+    subst (λ f. OpenMadeBy K f b s n begun m room (entry.Opened (Ok tt)) true m' room') none
     (made (entry.Opened (Ok tt)) refl (le-ltb room n (omega arith)) (subst (λ l. Stands K (opening b s l) [] m') long (stands (ap (open_refusal b s) long ∙ sym none))))
   where
-    made : (e : Entry S) → e ≡ entry.Opened (Ok tt) → ltb room n ≡ false → Stands K (opening b s n) [] m' → OpenMade_by K None b s n begun m room e true m' room'
+    made : (e : Entry S) → e ≡ entry.Opened (Ok tt) → ltb room n ≡ false → Stands K (opening b s n) [] m' → OpenMadeBy K None b s n begun m room e true m' room'
     made e p l st = subst (λ t. MatchBool t ((e ≡ entry.NoMemory) × (true ≡ begun) × (m' ≡ m) × (room' ≡ room)) ((table : List S) × (e ≡ entry.Opened (Ok tt)) × (true ≡ true) × (length table ≡ n) × (m' ≡ opened K b s table) × (room' + n ≡ room) × Stands K (opening b s n) [] m')) (sym l) (table, p, refl, long, is, fits, st)

@@ -1,4 +1,6 @@
 -- A policy by name names an active column, and none only where no column is active. (Lemmas: nothing here is to be believed.)
+--
+--   named_names   what the policy of a name names, by the laws of the policies that the names stand for
 use Rattle.std.specs.Prelude.{Bool, List}
 use Rattle.codes.specs.Matrix.{Matrix}
 use Rattle.method.specs.Choices.{Names, plain, first, heaviest, column_weight}

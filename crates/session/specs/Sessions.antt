@@ -165,13 +165,13 @@ Cut n room (Some l) room' = (l ≡ n) × (room' + n ≡ room)
 
 -- what an open does where no permit is in hand
 module _ {S : Type 0} (K : Kind S) where
-  abbrev pub OpenMade_by : Option Fault → (number stamp places : ℕ) → Bool → Block S → (room : ℕ) → Entry S → Bool → Block S → (room' : ℕ) → Type 0
-  OpenMade_by (Some f) b s n begun m room e begun' m' room' =
+  abbrev pub OpenMadeBy : Option Fault → (number stamp places : ℕ) → Bool → Block S → (room : ℕ) → Entry S → Bool → Block S → (room' : ℕ) → Type 0
+  OpenMadeBy (Some f) b s n begun m room e begun' m' room' =
       (e ≡ entry.Opened (Err f)) × (begun' ≡ true) × (m' ≡ opened K b s []) × (room' ≡ room)
-  OpenMade_by None b s n begun m room e begun' m' room' =
+  OpenMadeBy None b s n begun m room e begun' m' room' =
       MatchBool (nat_lt room n) ((e ≡ entry.NoMemory) × (begun' ≡ begun) × (m' ≡ m) × (room' ≡ room))
       ((table : List S) × (e ≡ entry.Opened (Ok tt)) × (begun' ≡ true) × (length table ≡ n) × (m' ≡ opened K b s table)
       × (room' + n ≡ room) × Stands K (opening b s n) [] m')
 
   abbrev pub OpenMade : (number stamp places : ℕ) → Bool → Block S → (room : ℕ) → Entry S → Bool → Block S → (room' : ℕ) → Type 0
-  OpenMade b s n begun m room e begun' m' room' = OpenMade_by (open_refusal b s n) b s n begun m room e begun' m' room'
+  OpenMade b s n begun m room e begun' m' room' = OpenMadeBy (open_refusal b s n) b s n begun m room e begun' m' room'

@@ -1,4 +1,10 @@
 -- The laws of the cell, from those of exclusive or on bytes. (Lemmas: nothing here is to be believed.)
+--
+--   same_cell     cells of the same bytes are equal
+--   fitted_is     64 bytes fit as they are
+--   sum_bytes     the bytes of a sum
+--   xors_assoc, xors_comm, xors_zero, xors_self    exclusive or, byte by byte: associative, commutative, with zeros and with itself
+--   cell_laws     the five laws of the cell
 use Rattle.std.specs.Prelude.{◌≡◌, ℕ, List, [], ◌∷◌, length, replicate, bit_xor, refl, slice_index}
 use Rattle.std.proofs.Common.{sym, ap, ap₂, ◌∙◌, arith}
 use mathlib.Core.HLevel.{is_prop→PathP}

@@ -1,4 +1,6 @@
 -- The laws of the pair, from those of its parts. (Lemmas: nothing here is to be believed.)
+--
+--   pair_laws     the five laws of the pair
 use Rattle.std.specs.Prelude.{◌&&◌}
 use Rattle.std.proofs.Common.{ap, ap₂}
 use Rattle.std.proofs.lemmas.Bool.Decides.{Decides-and, Decides-like}

@@ -1,4 +1,6 @@
 -- The laws of the word. (Lemmas: nothing here is to be believed.)
+--
+--   word_laws     the five laws of the word
 use Rattle.std.specs.Prelude.{◌≡◌, ℕ, refl}
 use Rattle.std.proofs.Common.{ap, arith}
 use Rattle.std.specs.Int.Bits.{xor_assoc, xor_self}
