@@ -2,7 +2,7 @@
 
     python3 tests/language/compare.py PROGRAM [--count N] [--seed S] [--jobs J] [--out FILE]
 
-PROGRAM is target/bin/panel after a check, or any command that reads a script and prints its answers. Script i of seed S is the same
+PROGRAM is any command that reads a script and prints its answers. Script i of seed S is the same
 on every machine. The first difference goes to FILE, with the script shortened as far as it still differs; the script alone goes to
 FILE.script.
 """
