@@ -141,4 +141,4 @@ def dated():
 
 
 def scripts():
-    return {name: "".join(line + "\n" for line in made()).encode() for name, made in (("lab", lab), ("dated", dated))}
+    return {name: "".join(line + "\n" for line in made()).encode() for name, made in (("session", lab), ("dated", dated))}

@@ -4,7 +4,8 @@
     python3 tests/language/make.py --data DIR     DIR/NAME.script and DIR/NAME.out: the other kinds, piles and policies
     python3 tests/language/make.py --days DIR     DIR/NAME.script and DIR/NAME.out: the example days
 
-Nothing is written but what is asked for.
+Nothing is written but what is asked for. These are scripts of the language to come (docs/SCRIPT-TO-COME.md): `--days days` writes
+days/session.* and days/dated.*, and crates/panel keeps the script of tests/outside/make.py, which the program answers today.
 """
 
 import argparse
