@@ -1,4 +1,5 @@
 pub mod BadRecords
 pub mod Members
+pub mod RowsRead
 pub mod Segments
 pub mod Starts

@@ -5,6 +5,7 @@ pub mod MatrixLaws
 pub mod RecordLaws
 pub mod Records
 pub mod Refusals
+pub mod RowsRead
 pub mod Shapes
 pub mod Tables
 pub mod Totals

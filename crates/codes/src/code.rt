@@ -1,8 +1,10 @@
 // The interface of a code: what may be asked of it, each answer an equation on its matrix.
 ghost use Rattle.std.specs.Prelude.{◌≡◌};
-ghost use Rattle.codes.specs.Matrix.{Matrix, Lawful, weight, column_at, holds};
+ghost use Rattle.codes.specs.Matrix.{Matrix, Lawful, row_at, weight, column_at, holds};
+ghost use Rattle.codes.specs.RowsRead.{columns_left};
 ghost use Rattle.codes.specs.Shapes.{shape_of};
 
+use crate::row::RowColumns;
 use crate::shape::Shape;
 
 pub trait Rows {
@@ -19,6 +21,19 @@ pub trait Rows {
 
     fn column(&self, r: usize, i: usize) -> Option<usize>
         ensures { result ≡ column_at (matrix self.now) r i };
+
+    // The columns of row r, in their order.
+    final fn row(&self, r: usize) -> RowColumns<'_, Self>
+    where
+        Self: Sized,
+        ensures { columns_left matrix result ≡ row_at (matrix self.now) r }
+    {
+        RowColumns {
+            code: self,
+            r,
+            next: 0,
+        }
+    }
 }
 
 pub trait Code: Rows {

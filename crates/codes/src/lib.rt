@@ -6,6 +6,7 @@ mod listed;
 mod membership;
 mod record;
 mod refusal;
+mod row;
 mod shape;
 #[cfg(test)]
 mod tests;
@@ -15,4 +16,5 @@ pub use listed::Listed;
 pub use membership::scan;
 pub use record::Record;
 pub use refusal::Refusal;
+pub use row::RowColumns;
 pub use shape::{MAX_COLUMNS, MAX_ONES, MAX_ROWS, Shape};

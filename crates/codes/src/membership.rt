@@ -7,12 +7,5 @@ use crate::code::Rows;
 pub fn scan<C: Rows>(code: &C, r: usize, c: usize) -> bool
     ensures { result ≡ holds (C.Rows.matrix code.now) r c }
 {
-    for i in 0..code.weight(r) {
-        if let Some(k) = code.column(r, i) {
-            if k == c {
-                return true;
-            }
-        }
-    }
-    false
+    code.row(r).any(|k| k == c)
 }

@@ -71,6 +71,12 @@ fn read_by_rows(rt: HostRuntime) -> Result<(), Fail> {
         (code.column(0, 1), code.column(0, 2), code.column(1, 0)),
         (Some(6), None, None)
     );
+    let mut row = code.row(0);
+    assert_eq!(rt;
+        (row.next(), row.next(), row.next()),
+        (Some(2), Some(6), None)
+    );
+    assert_eq!(rt; code.row(3).next(), None);
     assert!(rt; code.holds(2, 0) && !code.holds(2, 2) && !code.holds(1, 0));
     assert_eq!(rt; code.make(3, 7, &wrong), Err(Refusal::BadEntry(0)));
     assert_eq!(rt;
