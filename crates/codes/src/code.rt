@@ -4,6 +4,7 @@ ghost use Rattle.codes.specs.Matrix.{Matrix, Lawful, row_at, weight, column_at, 
 ghost use Rattle.codes.specs.RowsRead.{columns_left};
 ghost use Rattle.codes.specs.Shapes.{shape_of};
 
+use crate::membership::scan;
 use crate::row::RowColumns;
 use crate::shape::Shape;
 
@@ -38,5 +39,8 @@ pub trait Rows {
 
 pub trait Code: Rows {
     fn holds(&self, r: usize, c: usize) -> bool
-        ensures { result ≡ holds (Self.Rows.matrix self.now) r c };
+        ensures { result ≡ holds (Self.Rows.matrix self.now) r c }
+    {
+        scan(self, r, c)
+    }
 }

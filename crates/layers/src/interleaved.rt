@@ -6,7 +6,7 @@ ghost use Rattle.layers.specs.Layers.{squares_fit, interleaved, Fitted};
 ghost use Rattle.layers.specs.Rows.{column_above, Shows};
 
 use crate::turning::turn;
-use codes::{Code, Refusal, Rows, Shape, scan};
+use codes::{Code, Refusal, Rows, Shape};
 
 // a lines of b squares, each of z rows and z columns, in the code below.
 #[derive(Drop)]
@@ -67,11 +67,7 @@ impl<C: Rows> Rows for Interleaved<C> {
     }
 }
 
-impl<C: Rows> Code for Interleaved<C> {
-    fn holds(&self, r: usize, c: usize) -> bool {
-        scan(self, r, c)
-    }
-}
+impl<C: Rows> Code for Interleaved<C> {}
 
 // The code below with its rows and columns turned, or a refusal where it is not of a x b squares of z rows and columns.
 pub fn interleave<C: Rows + Drop>(

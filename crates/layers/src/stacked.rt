@@ -4,7 +4,7 @@ ghost use Rattle.layers.specs.LayerLaws.{stacked_lawful};
 ghost use Rattle.layers.specs.Layers.{shapes_fit, stack_fits, stacked, Fitted};
 ghost use Rattle.layers.specs.Rows.{Found};
 
-use codes::{Code, MAX_ONES, MAX_ROWS, Refusal, Rows, Shape, scan};
+use codes::{Code, MAX_ONES, MAX_ROWS, Refusal, Rows, Shape};
 
 #[derive(Drop)]
 pub struct Stacked<P, Q> {
@@ -76,11 +76,7 @@ impl<P: Rows, Q: Rows> Rows for Stacked<P, Q> {
     }
 }
 
-impl<P: Rows, Q: Rows> Code for Stacked<P, Q> {
-    fn holds(&self, r: usize, c: usize) -> bool {
-        scan(self, r, c)
-    }
-}
+impl<P: Rows, Q: Rows> Code for Stacked<P, Q> {}
 
 // The rows of the first code and then those of the second, or a refusal where their columns differ or they are too large together.
 pub fn stack<P: Rows + Drop, Q: Rows + Drop>(first: P, second: Q) -> Result<Stacked<P, Q>, Refusal>

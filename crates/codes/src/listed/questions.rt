@@ -7,7 +7,6 @@ ghost use Rattle.codes.specs.Records.{Start};
 
 use crate::code::{Code, Rows};
 use crate::listed::Listed;
-use crate::membership::scan;
 use crate::shape::{MAX_ROWS, Shape};
 
 impl<'a> Listed<'a> {
@@ -69,8 +68,4 @@ impl<'a> Rows for Listed<'a> {
     }
 }
 
-impl<'a> Code for Listed<'a> {
-    fn holds(&self, r: usize, c: usize) -> bool {
-        scan(self, r, c)
-    }
-}
+impl<'a> Code for Listed<'a> {}

@@ -9,7 +9,7 @@ ghost use Rattle.quasi_cyclic.specs.Lines.{Line};
 
 use crate::circulant::QuasiCyclic;
 use crate::entries::{shift, squares, turned};
-use codes::{Code, Rows, Shape, scan};
+use codes::{Code, Rows, Shape};
 
 // The column at place i of what row r holds of a line of squares.
 fn pick(line: &[i16], z: usize, r: usize, i: usize) -> Option<usize>
@@ -83,8 +83,4 @@ impl<'a> Rows for QuasiCyclic<'a> {
     }
 }
 
-impl<'a> Code for QuasiCyclic<'a> {
-    fn holds(&self, r: usize, c: usize) -> bool {
-        scan(self, r, c)
-    }
-}
+impl<'a> Code for QuasiCyclic<'a> {}
