@@ -36,13 +36,10 @@ pub fn read_header(bytes: &[u8]) -> Result<(u32, u32), HeaderFault>
 pub fn read_cell(bytes: &[u8]) -> Result<[u8; CELL], HeaderFault>
     ensures { answered result ≡ read_cell bytes.now }
 {
-    if bytes.len() != PACKET {
-        return Err(HeaderFault::Length(bytes.len()));
-    }
-    let (_, rest) = bytes.split_at(HEADER);
-    let mut cell = [0; CELL];
-    cell.copy_from_slice(rest);
-    Ok(cell)
+    bytes
+        .get(HEADER..)
+        .and_then(|cell| cell.try_into().ok())
+        .ok_or(HeaderFault::Length(bytes.len()))
 }
 
 // Writes a packet over all of the caller's 68 bytes; refused, it leaves them as they are.
@@ -76,11 +73,7 @@ fn packed(block: u32, number: u32, cell: &[u8; CELL]) -> [u8; PACKET]
     ensures law { Reads result block number cell.now }
 {
     let mut bytes = [0; PACKET];
-    let [a, b, c, d] = (block * NUMBERS + number).to_be_bytes();
-    bytes[0] = a;
-    bytes[1] = b;
-    bytes[2] = c;
-    bytes[3] = d;
-    bytes[HEADER..PACKET].copy_from_slice(cell);
+    bytes[..HEADER].copy_from_slice(&(block * NUMBERS + number).to_be_bytes());
+    bytes[HEADER..].copy_from_slice(cell);
     bytes
 }

@@ -30,8 +30,8 @@ fn all_zero(bytes: &[u8; 64]) -> bool
     ensures { Decides result ((k : ℕ) → k < 64 → slice_index bytes.now k ≡ 0) }
 {
     let mut any = 0;
-    for i in 0..64 {
-        any |= bytes[i];
+    for b in bytes {
+        any |= *b;
     }
     any == 0
 }

@@ -12,7 +12,7 @@ pub fn sum_at<S: Symbol>(table: &[S], columns: &[u16]) -> S
 {
     let mut sum = S::zero();
     for c in columns {
-        add_column(&mut sum, table, *c as usize);
+        add_column(&mut sum, table, usize::from(*c));
     }
     sum
 }
@@ -21,7 +21,7 @@ pub fn sum_at<S: Symbol>(table: &[S], columns: &[u16]) -> S
 fn add_column<S: Symbol>(sum: &mut S, table: &[S], column: usize)
     ensures { sum.new ≡ S.Symbol.kind.sum sum.old (slice_index_or table.now column S.Symbol.kind.zero) }
 {
-    if column < table.len() {
-        sum.add(&table[column]);
+    if let Some(x) = table.get(column) {
+        sum.add(x);
     }
 }

@@ -5,11 +5,7 @@ use crate::symbol::Symbol;
 
 // Bytes 1, 2, 3 and so on.
 fn rising() -> [u8; 64] {
-    let mut bytes = [0; 64];
-    for i in 0..64 {
-        bytes[i] = i as u8 + 1;
-    }
-    bytes
+    std::array::from_fn(|i| i as u8 + 1)
 }
 
 #[test]
@@ -38,10 +34,9 @@ fn a_cell_with_itself_is_zero_in_every_byte(rt: HostRuntime) {
     let x = Cell::new(rising());
     let mut sum = x;
     sum.add(&x);
-    for i in 0..64 {
-        let (byte, summed) = (x.bytes[i], sum.bytes[i]);
-        assert_eq!(rt; byte as usize, i + 1);
-        assert_eq!(rt; summed, 0);
+    for (i, (byte, summed)) in x.bytes.iter().zip(&sum.bytes).enumerate() {
+        assert_eq!(rt; usize::from(*byte), i + 1);
+        assert_eq!(rt; *summed, 0);
     }
     assert!(rt; sum.is_zero());
     assert!(rt; !x.is_zero());

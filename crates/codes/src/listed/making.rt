@@ -1,7 +1,7 @@
 // Making a listed code: the caller's records are judged once, and read from then on.
 ghost use Rattle.std.specs.Prelude.{◌≡◌, [], None, MatchResult};
 ghost use Rattle.codes.specs.Listings.{listed_matrix};
-ghost use Rattle.codes.specs.Records.{listed, sizes_fit, precedes, follows, good, first_bad, judged_records};
+ghost use Rattle.codes.specs.Records.{listed, sizes_fit, follows, good, first_bad, judged_records};
 ghost use Rattle.codes.specs.Refusals.{told};
 
 use crate::listed::Listed;
@@ -10,25 +10,16 @@ use crate::record::Record;
 use crate::refusal::Refusal;
 use crate::shape::{MAX_COLUMNS, MAX_ONES, MAX_ROWS};
 
-fn precedes(j: Record, k: Record) -> bool
-    ensures { result ≡ precedes j k }
-{
-    j.row < k.row || j.row == k.row && j.column < k.column
-}
-
 fn follows(last: Option<Record>, k: Record) -> bool
     ensures { result ≡ follows last k }
 {
-    match last {
-        Some(j) => precedes(j, k),
-        None => true,
-    }
+    last.is_none_or(|j| j < k)
 }
 
 fn good(m: usize, n: usize, last: Option<Record>, k: Record) -> bool
     ensures { result ≡ good m n last k }
 {
-    (k.row as usize) < m && (k.column as usize) < n && follows(last, k)
+    usize::from(k.row) < m && usize::from(k.column) < n && follows(last, k)
 }
 
 fn first_bad(m: usize, n: usize, records: &[Record]) -> Option<usize>
@@ -47,7 +38,7 @@ fn first_bad(m: usize, n: usize, records: &[Record]) -> Option<usize>
 fn sizes_fit(m: usize, n: usize) -> bool
     ensures { result ≡ sizes_fit m n }
 {
-    1 <= m && m <= MAX_ROWS && 1 <= n && n <= MAX_COLUMNS
+    (1..=MAX_ROWS).contains(&m) && (1..=MAX_COLUMNS).contains(&n)
 }
 
 fn judge(m: usize, n: usize, records: &[Record]) -> Result<(), Refusal>

@@ -10,7 +10,8 @@ loop-c-preserved g c =
     let table = c.args.table.now in
     let columns = c.args.columns.now in
     let i = c.loop-c.c-index in
-    ap (λ a. K.sum a (sum_at K.zero K.sum table (drop (i + 1) columns))) c.add_column.ensures
+    let added = c.add_column.ensures ∙ ap (λ k. K.sum c.loop-c.sum (get_or table k K.zero)) c.from.ensures in
+    ap (λ a. K.sum a (sum_at K.zero K.sum table (drop (i + 1) columns))) added
     ∙ total_more g.met.S.Symbol.lawful.sums (λ k. get_or table k K.zero) columns i 0 c.loop-c.sum c.loop-c-test.true
     ∙ c.loop-c.invariant
 
