@@ -22,6 +22,7 @@ fn good(m: usize, n: usize, last: Option<Record>, k: Record) -> bool
     usize::from(k.row) < m && usize::from(k.column) < n && follows(last, k)
 }
 
+// A loop, since each record is judged by the last one before it.
 fn first_bad(m: usize, n: usize, records: &[Record]) -> Option<usize>
     ensures { result ≡ first_bad m n None 0 records.now }
 {

@@ -7,7 +7,7 @@ ghost use Rattle.codes.specs.Records.{Start};
 
 use crate::code::{Code, Rows};
 use crate::listed::Listed;
-use crate::shape::{MAX_ROWS, Shape};
+use crate::shape::Shape;
 
 impl<'a> Listed<'a> {
     fn rows(&self) -> usize
@@ -26,10 +26,9 @@ impl<'a> Listed<'a> {
     fn start(&self, r: usize) -> usize
         ensures { Start self.now.m self.now.n self.now.records.now r result }
     {
-        if r > MAX_ROWS {
-            return self.records.len();
-        }
-        self.starts[r] as usize
+        self.starts
+            .get(r)
+            .map_or(self.records.len(), |p| usize::from(*p))
     }
 }
 
@@ -47,24 +46,15 @@ impl<'a> Rows for Listed<'a> {
     }
 
     fn weight(&self, r: usize) -> usize {
-        let p = self.start(r);
         if r >= self.m {
             return 0;
         }
-        self.start(r + 1) - p
+        self.start(r + 1) - self.start(r)
     }
 
     fn column(&self, r: usize, i: usize) -> Option<usize> {
-        let p = self.start(r);
-        let records = self.records;
-        if i >= records.len() - p {
-            return None;
-        }
-        if records[p + i].row as usize == r {
-            Some(records[p + i].column as usize)
-        } else {
-            None
-        }
+        let k = self.records[self.start(r)..].get(i)?;
+        (usize::from(k.row) == r).then_some(usize::from(k.column))
     }
 }
 
