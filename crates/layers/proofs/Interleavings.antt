@@ -1,5 +1,5 @@
 -- The rows and sizes of an interleaved code, from those below.
-use Rattle.std.proofs.Common.{◌≡◌, ℕ, ◌<◌, ◌≤◌, Bool, true, false, [], map, length, sym, ap, ◌∙◌, subst, ⊎_elim, mul_comm, arith}
+use Rattle.std.proofs.Common.{◌≡◌, ℕ, ◌<◌, ◌≤◌, true, false, [], map, length, sym, ap, ◌∙◌, ⊎_elim, mul_comm, arith}
 use Rattle.std.specs.List.{slice_get}
 use Rattle.std.specs.Option.{option_map}
 use Rattle.std.proofs.iter.runs.Lists.{slice_get-map}
@@ -10,7 +10,6 @@ use Rattle.codes.specs.Shapes.{shape_of}
 use Rattle.codes.specs.Tables.{table, table_at, table_past, table_height}
 use Rattle.layers.specs.LayerLaws.{squares_parts, turned_ones, turn_large}
 use Rattle.layers.specs.Layers.{turn, squares_fit, interleaved, interleaved_row}
-use Rattle.layers.specs.Rows.{Shows}
 
 module _ (a b z : ℕ) (k : Matrix) (f : squares_fit a b z (shape_of k) ≡ true) where
   pub interleaved_yes : interleaved a b z k ≡ table (height k) k.width (interleaved_row a b z k)
@@ -39,18 +38,11 @@ module _ (a b z : ℕ) (k : Matrix) (f : squares_fit a b z (shape_of k) ≡ true
   sizes_kept : shape_of k ≡ shape_of (interleaved a b z k)
   sizes_kept = λ i. record { rows = interleaved_height i; columns = sym (ap (λ x. x.width) interleaved_yes) i; ones = interleaved_ones i }
 
-  column_turned : (r i : ℕ) → column_at (interleaved a b z k) r i ≡ option_map (turn b z) (column_at k (turn z a r) i)
+  pub weight_turned : (r : ℕ) → weight (interleaved a b z k) r ≡ weight k (turn z a r)
+  weight_turned r = ap length (interleaved_at r) ∙ length-map (row_at k (turn z a r)) (turn b z)
+
+  pub column_turned : (r i : ℕ) → column_at (interleaved a b z k) r i ≡ option_map (turn b z) (column_at k (turn z a r) i)
   column_turned r i = ap (λ row. slice_get row i) (interleaved_at r) ∙ slice_get-map (turn b z) (row_at k (turn z a r)) i
-
-  shows_turned : (r s : ℕ) → s ≡ turn z a r → Shows a b z k true r s
-  shows_turned r s e = record {
-    wide = ap (weight k) e ∙ sym (ap length (interleaved_at r) ∙ length-map (row_at k (turn z a r)) (turn b z));
-    column = λ i c h. ap (option_map (turn b z)) (h ∙ ap (λ s. column_at k s i) e) ∙ sym (column_turned r i);
-    none = λ i h. ap (option_map (turn b z)) (h ∙ ap (λ s. column_at k s i) e) ∙ sym (column_turned r i);
-  }
-
-  pub shows : (fits : Bool) (r s : ℕ) → fits ≡ true → s ≡ turn z a r → Shows a b z k fits r s
-  shows fits r s y e = subst (λ v. Shows a b z k v r s) (sym y) (shows_turned r s e)
 
 -- an interleaved code has the sizes of the code below
 pub interleaved_shape : (a b z : ℕ) (k : Matrix) → shape_of k ≡ shape_of (interleaved a b z k)

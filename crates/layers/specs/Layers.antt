@@ -36,6 +36,6 @@ stack_fits k l = shapes_fit (shape_of k) (shape_of l)
 abbrev pub stacked : Matrix → Matrix → Matrix
 stacked k l = cond (stack_fits k l) (record { width = k.width; rows = k.rows ++ l.rows }) k
 
-abbrev pub Fitted : {A : Type 0} → Bool → A → Result A Refusal → Type 0
-Fitted fits layer (Ok x) = (fits ≡ true) × (x ≡ layer)
-Fitted fits layer (Err e) = (fits ≡ false) × (meaning e ≡ bad_shape)
+abbrev pub Fitted : {A : Type 0} → Bool → (A → Type 0) → Result A Refusal → Type 0
+Fitted fits Is (Ok x) = (fits ≡ true) × Is x
+Fitted fits Is (Err e) = (fits ≡ false) × (meaning e ≡ bad_shape)

@@ -1,47 +1,26 @@
 // A code over another one, with its rows and its columns turned.
-ghost use Rattle.std.specs.Prelude.{◌≡◌};
+ghost use Rattle.std.specs.Prelude.{◌≡◌, true};
 ghost use Rattle.codes.specs.Shapes.{shape_of};
 ghost use Rattle.layers.specs.LayerLaws.{interleaved_lawful};
 ghost use Rattle.layers.specs.Layers.{squares_fit, interleaved, Fitted};
-ghost use Rattle.layers.specs.Rows.{column_above, Shows};
 
 use crate::turning::turn;
 use codes::{Code, Refusal, Rows, Shape};
 
 // a lines of b squares, each of z rows and z columns, in the code below.
 #[derive(Drop)]
-pub struct Interleaved<C> {
+pub struct Interleaved<C: Rows> {
     below: C,
     a: usize,
     b: usize,
     z: usize,
+    ghost fit: { squares_fit a b z (shape_of (C.Rows.matrix below)) ≡ true },
 }
 
-impl<C: Rows> Interleaved<C> {
-    // Whether the code below is of such squares. Asks its sizes once.
-    fn fits(&self) -> bool
-        ensures { result ≡ squares_fit self.now.a self.now.b self.now.z (shape_of (C.Rows.matrix self.now.below)) }
-    {
-        let shape = self.below.shape();
-        self.a.checked_mul(self.z) == Some(shape.rows)
-            && self.b.checked_mul(self.z) == Some(shape.columns)
-    }
-
-    // The row below that row r shows.
-    fn row_below(&self, fits: bool, r: usize) -> usize
-        requires { fits ≡ squares_fit self.now.a self.now.b self.now.z (shape_of (C.Rows.matrix self.now.below)) }
-        ensures { Shows self.now.a self.now.b self.now.z (C.Rows.matrix self.now.below) fits r result }
-    {
-        if fits { turn(self.z, self.a, r) } else { r }
-    }
-
-    // Where column c of the code below goes.
-    fn column_above(&self, fits: bool, c: usize) -> usize
-        requires { fits ≡ squares_fit self.now.a self.now.b self.now.z (shape_of (C.Rows.matrix self.now.below)) }
-        ensures { result ≡ column_above fits self.now.b self.now.z c }
-    {
-        if fits { turn(self.b, self.z, c) } else { c }
-    }
+fn squares_fit(a: usize, b: usize, z: usize, shape: Shape) -> bool
+    ensures { result ≡ squares_fit a b z shape }
+{
+    a.checked_mul(z) == Some(shape.rows) && b.checked_mul(z) == Some(shape.columns)
 }
 
 impl<C: Rows> Rows for Interleaved<C> {
@@ -54,16 +33,13 @@ impl<C: Rows> Rows for Interleaved<C> {
     }
 
     fn weight(&self, r: usize) -> usize {
-        let fits = self.fits();
-        self.below.weight(self.row_below(fits, r))
+        self.below.weight(turn(self.z, self.a, r))
     }
 
     fn column(&self, r: usize, i: usize) -> Option<usize> {
-        let fits = self.fits();
-        match self.below.column(self.row_below(fits, r), i) {
-            Some(c) => Some(self.column_above(fits, c)),
-            None => None,
-        }
+        self.below
+            .column(turn(self.z, self.a, r), i)
+            .map(|c| turn(self.b, self.z, c))
     }
 }
 
@@ -76,11 +52,10 @@ pub fn interleave<C: Rows + Drop>(
     b: usize,
     z: usize,
 ) -> Result<Interleaved<C>, Refusal>
-    ensures { Fitted (squares_fit a b z (shape_of (C.Rows.matrix below))) (record { below = below; a = a; b = b; z = z }) result }
+    ensures { Fitted (squares_fit a b z (shape_of (C.Rows.matrix below))) (λ x. (x.below ≡ below) × (x.a ≡ a) × (x.b ≡ b) × (x.z ≡ z)) result }
 {
-    let layer = Interleaved { below, a, b, z };
-    if layer.fits() {
-        Ok(layer)
+    if squares_fit(a, b, z, below.shape()) {
+        Ok(Interleaved { below, a, b, z })
     } else {
         Err(Refusal::BadShape)
     }
