@@ -2,4 +2,3 @@ pub mod BadEntries
 pub mod LineLaws
 pub mod Picks
 pub mod SquareLaws
-pub mod Squares

@@ -1,7 +1,7 @@
 // Base entries: their squares, and how they are judged.
 ghost use Rattle.std.specs.Prelude.{◌≡◌, ◌*◌, ◌<◌, ◌≤◌, Ok, Err, MatchResult, nat_le};
 ghost use Rattle.codes.specs.Refusals.{meaning};
-ghost use Rattle.quasi_cyclic.specs.Entries.{shift_of, filled, turned, base_fits, entry_fits, first_bad_entry, squares, judged_entries};
+ghost use Rattle.quasi_cyclic.specs.Entries.{shift_of, turned, base_fits, entry_fits, first_bad_entry, squares, judged_entries};
 
 use codes::{MAX_COLUMNS, MAX_ONES, MAX_ROWS, Refusal};
 
@@ -9,47 +9,32 @@ use codes::{MAX_COLUMNS, MAX_ONES, MAX_ROWS, Refusal};
 pub(crate) fn shift(e: i16) -> Option<u16>
     ensures { result ≡ shift_of e }
 {
-    if e >= 0 { Some(e as u16) } else { None }
+    u16::try_from(e).ok()
 }
 
 // The column that row r holds within a square of shift s.
 pub(crate) fn turned(z: usize, r: usize, s: usize) -> usize
-    requires { (s < z) × (z ≤ 512) }
+    requires within { s < z }
+    requires small { z ≤ 512 }
     ensures { result ≡ turned z r s }
 {
     (r % z + s) % z
-}
-
-// The ones in each row of an entry's square.
-fn filled(e: i16) -> usize
-    ensures { result ≡ filled (shift_of e) }
-{
-    match shift(e) {
-        Some(_) => 1,
-        None => 0,
-    }
 }
 
 // How many squares are not empty.
 pub(crate) fn squares(entries: &[i16]) -> usize
     ensures { result ≡ squares entries.now }
 {
-    let mut count: usize = 0;
-    for e in entries {
-        count += filled(*e);
-    }
-    count
+    entries.iter().filter(|e| shift(**e).is_some()).count()
 }
 
 fn entry_fits(z: usize, e: i16) -> bool
     ensures { result ≡ entry_fits z e }
 {
-    match shift(e) {
-        Some(s) => (s as usize) < z,
-        None => e == -1,
-    }
+    shift(e).map_or(e == -1, |s| usize::from(s) < z)
 }
 
+// A loop: of `position` it is not proved that a signed entry is what the list holds.
 fn first_bad_entry(z: usize, entries: &[i16]) -> Option<usize>
     ensures { result ≡ first_bad_entry z 0 entries.now }
 {
@@ -65,10 +50,7 @@ fn first_bad_entry(z: usize, entries: &[i16]) -> Option<usize>
 fn product_within(x: usize, y: usize, bound: usize) -> bool
     ensures { result ≡ nat_le (x * y) bound }
 {
-    match x.checked_mul(y) {
-        Some(p) => p <= bound,
-        None => false,
-    }
+    x.checked_mul(y).is_some_and(|p| p <= bound)
 }
 
 fn base_fits(a: usize, b: usize, z: usize, len: usize) -> bool
@@ -92,8 +74,8 @@ pub(crate) fn judge(a: usize, b: usize, z: usize, entries: &[i16]) -> Result<usi
     if let Some(i) = first_bad_entry(z, entries) {
         return Err(Refusal::BadEntry(i));
     }
-    match squares(entries).checked_mul(z) {
-        Some(ones) if ones <= MAX_ONES => Ok(ones),
-        _ => Err(Refusal::BadShape),
-    }
+    squares(entries)
+        .checked_mul(z)
+        .filter(|ones| *ones <= MAX_ONES)
+        .ok_or(Refusal::BadShape)
 }

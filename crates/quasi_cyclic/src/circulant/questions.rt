@@ -11,9 +11,10 @@ use crate::circulant::QuasiCyclic;
 use crate::entries::{shift, squares, turned};
 use codes::{Code, Rows, Shape};
 
-// The column at place i of what row r holds of a line of squares.
+// The column at place i of what row r holds of a line of squares. A loop, since the place of a square counts all squares, and i those that are not empty.
 fn pick(line: &[i16], z: usize, r: usize, i: usize) -> Option<usize>
-    requires within { (z ≤ 512) × (length line.now * z ≤ 512) }
+    requires small { z ≤ 512 }
+    requires within { length line.now * z ≤ 512 }
     requires right { (k : ℕ) → k < length line.now → entry_fits z (slice_index_or line.now k (pos 0)) ≡ true }
     ensures { result ≡ slice_get (line_row z r 0 line.now) i }
 {
@@ -21,7 +22,7 @@ fn pick(line: &[i16], z: usize, r: usize, i: usize) -> Option<usize>
     for (j, e) in line.iter().enumerate() {
         if let Some(s) = shift(*e) {
             if left == 0 {
-                return Some(j * z + turned(z, r, s as usize));
+                return Some(j * z + turned(z, r, usize::from(s)));
             }
             left -= 1;
         }

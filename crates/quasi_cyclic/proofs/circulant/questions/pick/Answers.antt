@@ -1,7 +1,7 @@
 use Rattle.std.proofs.Common.{◌≡◌, ℕ, suc, ◌+◌, ◌*◌, get_or, drop, ℤ, pos, Some, sym, ap, ◌∙◌, arith, w16, SFits, rules}
 use Rattle.std.specs.List.{slice_get}
 use Rattle.std.proofs.lemmas.Int.{to_z-of_z}
-use Rattle.quasi_cyclic.specs.Entries.{shift_of, line_row}
+use Rattle.quasi_cyclic.specs.Entries.{shift_of, turned, line_row}
 use Rattle.quasi_cyclic.proofs.Picks.{shift_fits, pick_here, pick_next, pick_skip, pick_end}
 use Rattle.quasi_cyclic.proofs.circulant.questions.pick.Goals as goal
 use Rattle.quasi_cyclic.proofs.circulant.questions.pick.Goals.{in-Some+else-left-eq0, in_default}
@@ -13,7 +13,7 @@ returns-then-left-eq0 c =
     let e : ℤ = get_or es j (pos 0) in
     let f : SFits w16 e = search rules in
     let row = line_row c.args.z c.args.r (j * c.args.z) (drop j es) in
-    ap (λ v. Some (j * c.args.z + v)) c.turned.ensures
+    ap (λ v. Some (j * c.args.z + v)) (c.turned.ensures ∙ ap (turned c.args.z c.args.r) c.from.ensures)
     ∙ sym (pick_here c.args.z c.args.r j es c.loop-j-test.true c.in-Some.s (c.in-Some.ensures ∙ ap shift_of (to_z-of_z w16 e f)))
     ∙ ap (slice_get row) (sym c.if-left-eq0.true)
     ∙ c.loop-j.invariant
@@ -48,4 +48,4 @@ turned-requires c =
     let j : ℕ = c.loop-j.j in
     let e : ℤ = get_or es j (pos 0) in
     let f : SFits w16 e = search rules in
-    (shift_fits c.args.z c.in-Some.s e (c.requires.right j c.loop-j-test.true) (c.in-Some.ensures ∙ ap shift_of (to_z-of_z w16 e f)), c.requires.within.0)
+    record { within = omega (arith, c.from.ensures, shift_fits c.args.z c.in-Some.s e (c.requires.right j c.loop-j-test.true) (c.in-Some.ensures ∙ ap shift_of (to_z-of_z w16 e f))); small = c.requires.small }
