@@ -1,4 +1,3 @@
-pub mod BadRecords
 pub mod Members
 pub mod RowsRead
 pub mod Segments

@@ -1,8 +1,8 @@
 -- What the laws of a plain sum give of a list's total.
-use Rattle.std.proofs.Common.{◌≡◌, ℕ, ◌+◌, ◌<◌, ◌≤◌, List, map, length, get_or, drop, sym, refl, ap, ◌∙◌, ap₂}
+use Rattle.std.proofs.Common.{◌≡◌, ℕ, ◌≤◌, List, map, length, drop, sym, refl, ap, ◌∙◌, ap₂}
 use mathlib.Core.Logic.{∥∥₁_elim, ∥∥₁_map}
 use mathlib.Core.List.{Perm, Permᴰ}
-use Rattle.std.proofs.lemmas.List.{drop_more, drop_all, get_or_past}
+use Rattle.std.proofs.lemmas.List.{drop_all}
 use Rattle.symbols.specs.Kinds.{SumLaws}
 use Rattle.symbols.specs.Sums.{total}
 
@@ -10,15 +10,7 @@ module _ {S : Type 0} {zero : S} {sum : S → S → S} (laws : SumLaws zero sum)
   pub sum_zero : (x : S) → sum x zero ≡ x
   sum_zero x = laws.commutative x zero ∙ laws.identity x
 
-  -- past the end of a table there is nothing to add
-  pub sum_past : (table : List S) (c : ℕ) (x : S) → length table ≤ c → sum x (get_or table c zero) ≡ x
-  sum_past table c x h = ap (sum x) (get_or_past table c zero h) ∙ sum_zero x
-
-  -- a loop that adds f of each element, in order: what is left gives the rest
-  pub total_more : {X : Type 0} (f : X → S) (xs : List X) (i : ℕ) (d : X) (acc : S) → i < length xs
-      → sum (sum acc (f (get_or xs i d))) (total zero sum (map f (drop (i + 1) xs))) ≡ sum acc (total zero sum (map f (drop i xs)))
-  total_more f xs i d acc h = laws.associative _ _ _ ∙ ap (λ l. sum acc (total zero sum (map f l))) (sym (drop_more xs i d h))
-
+  -- a list read to its end has nothing more to add
   pub total_all : {X : Type 0} (f : X → S) (xs : List X) (i : ℕ) (acc : S) → length xs ≤ i → sum acc (total zero sum (map f (drop i xs))) ≡ acc
   total_all f xs i acc h = ap (λ l. sum acc (total zero sum (map f l))) (drop_all i xs h) ∙ sum_zero acc
 

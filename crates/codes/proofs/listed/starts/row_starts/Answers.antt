@@ -16,12 +16,6 @@ counted c =
     let rest = c.lower-p.ensures ∙ ap (λ ks. lower ks r) (take_all (length rs - p) (drop p rs) (omega (arith, length-drop p rs))) in
     ap (λ n. p + n) rest ∙ ap (λ n. n + lower (drop n rs) r) c.loop-r.invariant.counted ∙ lower_more rs (r - 1) r (omega arith)
 
-pub overflow_add-p : goal.overflow_add-p
-overflow_add-p c = omega (arith, counted (goal.at.overflow_add-p c).After-lower-p, lower_most c.args.records.now c.loop-r.r)
-
-pub overflow_cast-start : goal.overflow_cast-start
-overflow_cast-start c = omega (arith, counted (goal.at.overflow_cast-start c).After-lower-p, lower_most c.args.records.now c.loop-r.r)
-
 pub loop-r-preserved : goal.loop-r-preserved
 loop-r-preserved c =
     let starts = c.loop-r.start-items in
