@@ -1,5 +1,5 @@
 -- None, one and several exclude one another, so an answer that is right is exactly right.
-use Rattle.std.proofs.Common.{◌≡◌, ℕ, ◌↔◌, sym, refl, ◌∙◌, arith}
+use Rattle.std.proofs.Common.{◌≡◌, ◌↔◌, sym, refl, ◌∙◌}
 use Rattle.method.specs.Fillings.{No, Only, One, Two}
 use Rattle.receiver.specs.History.{Answer}
 use Rattle.receiver.specs.History.Answer.{none, one, several}
@@ -18,15 +18,6 @@ module _ {W : Type 0} {P Q : W → Type 0} (to : (w : W) → P w → Q w) (back 
 abbrev pub Right : {W : Type 0} → (W → Type 0) → Answer → Type 0
 Right Q a = ((a ≡ none) ↔ No Q) × ((a ≡ one) ↔ One Q) × ((a ≡ several) ↔ Two Q)
 
-apart_01 : none ≡ one → ⊥
-apart_01 e = let z : ◌≡◌ {A = ℕ} 0 1 = cc in omega arith
-
-apart_02 : none ≡ several → ⊥
-apart_02 e = let z : ◌≡◌ {A = ℕ} 0 1 = cc in omega arith
-
-apart_12 : one ≡ several → ⊥
-apart_12 e = let z : ◌≡◌ {A = ℕ} 0 1 = cc in omega arith
-
 module _ {W : Type 0} {P : W → Type 0} where
   no_one : No P → One P → ⊥
   no_one f u = f u.0 u.1.0
@@ -38,12 +29,12 @@ module _ {W : Type 0} {P : W → Type 0} where
   one_two u t = t.4 (u.1.1 t.0 t.2 ∙ sym (u.1.1 t.1 t.3))
 
   pub none_right : No P → Right P none
-  none_right f = ((λ e. f, λ g. refl), (λ e. absurd (apart_01 e), λ u. absurd (no_one f u)), (λ e. absurd (apart_02 e), λ u. absurd (no_two f u)))
+  none_right f = ((λ e. f, λ g. refl), (λ e. cc, λ u. absurd (no_one f u)), (λ e. cc, λ u. absurd (no_two f u)))
 
   pub one_right : One P → Right P one
   one_right u =
-      ((λ e. absurd (apart_01 (sym e)), λ f. absurd (no_one f u)), (λ e. u, λ v. refl), (λ e. absurd (apart_12 e), λ v. absurd (one_two u v)))
+      ((λ e. cc, λ f. absurd (no_one f u)), (λ e. u, λ v. refl), (λ e. cc, λ v. absurd (one_two u v)))
 
   pub several_right : Two P → Right P several
   several_right u =
-      ((λ e. absurd (apart_02 (sym e)), λ f. absurd (no_two f u)), (λ e. absurd (apart_12 (sym e)), λ v. absurd (one_two v u)), (λ e. u, λ v. refl))
+      ((λ e. cc, λ f. absurd (no_two f u)), (λ e. cc, λ v. absurd (one_two v u)), (λ e. u, λ v. refl))

@@ -1,7 +1,7 @@
 -- The law behind every promise over histories: a call that does its step goes on with whatever history stood before it.
 use Rattle.std.proofs.Common.{◌≡◌, ℕ, ◌<◌, ◌≤◌, Bool, true, false, ◌||◌, eqb, ltb, ◌≢◌, List, [], ◌∷◌, length, get_or, take, set, replicate, Some, None, Option, sym, refl, ap, ◌∙◌, subst, arith, length-set, get_or-set_other, get_or-set_same, ltb-false, eqb-true, leb-false}
 use lib.ListN.{length-replicate, get_or-replicate}
-use borrow.Author.Tests.{eqb-false, not-false, clash, both_ways}
+use borrow.Author.Tests.{eqb-false, not-false, both_ways}
 use Rattle.std.specs.List.{AllByRecursion}
 use Rattle.std.proofs.ByRecursion.{All-weaker}
 use Rattle.symbols.specs.Kinds.{Kind}
@@ -14,7 +14,7 @@ use Rattle.receiver.specs.History.Event.{refused, unread, received, searched, sh
 use Rattle.receiver.specs.Blocks.{Block, seen, closed_block, renewed_block, opened, opened_by}
 use Rattle.receiver.specs.Steps.{Step}
 use Rattle.receiver.specs.Stands.{opening, Kept, IsFound, Tied, Stands, GoesOn}
-use Rattle.receiver.proofs.Refusing.{no_cause, refusal_same, owned, not_out, nothing_full}
+use Rattle.receiver.proofs.Refusing.{no_cause, refusal_same, owned, not_out}
 use Rattle.receiver.proofs.Packets.{all_both, all_borne}
 use Rattle.receiver.proofs.Zeroing.{get_or_zero_missing, length_zero_missing, length_zeroed}
 
@@ -56,7 +56,7 @@ module _ {S : Type 0} (K : Kind S) where
           all_both (λ k u e. record { stamp_is = u.stamp_is; below = u.below; symbol_is = get_or-set_other m.table p k.place x K.zero (apart unmarked k u e) ∙ u.symbol_is }) t.packets d.kept (all_borne t.packets),
         );
         marked = λ q lt. mark below q lt (eqb p q) refl;
-        found = λ is. nothing_full m.out (not_out m.out a.0) is;
+        found = λ is. let off = not_out m.out a.0 in cc;
       })
     where
       apart : get_or m.received p false ≡ false → (k : Packet S) → Kept K m k → borne t.packets k.place ≡ true → k.place ≢ p
@@ -82,7 +82,7 @@ module _ {S : Type 0} (K : Kind S) where
       symbol_is = get_or_zero_missing K.zero m.received m.table m.n k.place u.below (d.marked k.place u.below ∙ e) ∙ u.symbol_is;
     }) t.packets d.kept (all_borne t.packets);
     marked = d.marked;
-    found = λ is. nothing_full Nothing refl is;
+    found = λ is. cc;
   }
 
   -- a block begun afresh is tied to a history that took no packet since
@@ -96,7 +96,7 @@ module _ {S : Type 0} (K : Kind S) where
     room = omega (arith, few, ap length flags ∙ length-replicate {A = Bool} 512 false);
     kept = subst (AllByRecursion (Kept K m)) (sym none) tt;
     marked = λ p lt. ap (λ l. get_or l p false) flags ∙ get_or-replicate {A = Bool} 512 p false false (omega (arith, few, lt)) ∙ sym (ap (λ ks. borne ks p) none);
-    found = λ is. nothing_full m.out off is;
+    found = λ is. cc;
   }
 
   -- what is true of an event, and the block that it leaves
@@ -148,5 +148,5 @@ module _ {S : Type 0} (K : Kind S) where
       few n e = go (eqb n 0) e
         where
           go : (b : Bool) → (b || ltb 512 n) ≡ false → n ≤ 512
-          go true f = absurd (clash (sym f))
+          go true f = cc
           go false f = ltb-false 512 n f

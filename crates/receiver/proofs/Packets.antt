@@ -1,6 +1,5 @@
 -- The packets taken, and the numbers that they bear.
 use Rattle.std.proofs.Common.{◌≡◌, ℕ, Bool, true, false, ◌||◌, eqb, List, [], ◌∷◌, refl, ap, eq-eqb, eqb-true}
-use borrow.Author.Tests.{clash}
 use Rattle.std.specs.List.{AllByRecursion}
 use Rattle.std.proofs.ByRecursion.{All-weaker}
 use Rattle.receiver.specs.History.{Packet, borne}
@@ -26,7 +25,7 @@ module _ {S : Type 0} where
 
   -- a number that is borne is some packet's
   pub some_bears : {R : Type 0} (ks : List (Packet S)) (p : ℕ) → borne ks p ≡ true → AllByRecursion (λ k. k.place ≡ p → R) ks → R
-  some_bears [] p e a = absurd (clash e)
+  some_bears [] p e a = cc
   some_bears {R} (k ∷ ks) p e a = go (λ f. some_bears ks p f a.1) (eqb k.place p) refl e
     where
       go : (borne ks p ≡ true → R) → (b : Bool) → eqb k.place p ≡ b → (b || borne ks p) ≡ true → R

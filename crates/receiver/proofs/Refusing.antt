@@ -1,6 +1,5 @@
 -- What refuses a call: views that agree refuse alike, and a granted call has no cause.
-use Rattle.std.proofs.Common.{◌≡◌, ℕ, ◌<◌, Bool, true, false, cond, not, ◌&&◌, eqb, leb, [], ◌∷◌, Some, None, Option, sym, refl, ap, ◌∙◌, arith, eqb-true, leb-false}
-use borrow.Author.Tests.{clash}
+use Rattle.std.proofs.Common.{◌≡◌, ℕ, ◌<◌, Bool, true, false, cond, not, ◌&&◌, eqb, leb, [], ◌∷◌, Some, None, Option, refl, ap, ◌∙◌, eqb-true, leb-false}
 use Rattle.refusals.specs.Refusals.{if_so, first_of}
 use Rattle.symbols.specs.Kinds.{Kind}
 use Rattle.codes.specs.Matrix.{height}
@@ -13,7 +12,7 @@ use Rattle.receiver.specs.Calls.Call.{receive, solve, show, close, renew}
 
 -- where no cause holds, the first does not, and none of the rest
 pub no_cause : {F : Type 0} (b : Bool) (f : F) (rest : Option F) → cond b (Some f) rest ≡ None → (b ≡ false) × (rest ≡ None)
-no_cause true f rest e = let z : ◌≡◌ {A = ℕ} 0 1 = cc in absurd (omega arith)
+no_cause true f rest e = cc
 no_cause false f rest e = (refl, e)
 
 module _ (v w : View) (number : v.number ≡ w.number) (stamp : v.stamp ≡ w.stamp) (places : v.places ≡ w.places) (out : v.out ≡ w.out) (has : (p : ℕ) → p < w.places → v.has p ≡ w.has p) where
@@ -40,14 +39,10 @@ owned v q e = go v.out (eqb q.number v.number) (eqb q.stamp v.stamp) refl e
   where
     go : (a : Out) (b c : Bool) → eqb q.stamp v.stamp ≡ c → (is_out a && (b && c)) ≡ true → (a ≡ Full) × (q.stamp ≡ v.stamp)
     go Full true true is f = (refl, eqb-true _ _ is)
-    go Full true false is f = absurd (clash f)
-    go Full false c is f = absurd (clash f)
-    go Nothing b c is f = absurd (clash f)
+    go Full true false is f = cc
+    go Full false c is f = cc
+    go Nothing b c is f = cc
 
 pub not_out : (a : Out) → is_out a ≡ false → a ≡ Nothing
 not_out Nothing e = refl
-not_out Full e = absurd (clash (sym e))
-
-pub nothing_full : {R : Type 0} → (a : Out) → a ≡ Nothing → a ≡ Full → R
-nothing_full Nothing e f = let z : ◌≡◌ {A = ℕ} 0 1 = cc in absurd (omega arith)
-nothing_full Full e f = let z : ◌≡◌ {A = ℕ} 0 1 = cc in absurd (omega arith)
+not_out Full e = cc

@@ -1,6 +1,5 @@
 -- Runs of packets: how one packet more, or the refused one, makes a run; and that a run goes on with any history.
-use Rattle.std.proofs.Common.{◌≡◌, ℕ, ◌+◌, ◌<◌, ◌≤◌, Bool, true, false, cond, eqb, List, [], ◌∷◌, length, take, drop, Ok, Err, Result, sym, refl, ap, subst, inl, inr, arith, eq-eqb, eqb-true}
-use borrow.Author.Tests.{clash}
+use Rattle.std.proofs.Common.{◌≡◌, ℕ, ◌+◌, ◌*◌, ◌<◌, ◌≤◌, min, Bool, true, false, cond, eqb, List, [], ◌∷◌, ◌++◌, length, Ok, Err, Result, sym, refl, ap, subst, inl, inr, arith, eq-eqb, eqb-true}
 use Rattle.symbols.specs.Cells.{cell_kind}
 use Rattle.symbols.specs.declared.kinds.Cell.{Cell}
 use Rattle.receiver.specs.declared.run.Layer.{Layer}
@@ -9,14 +8,18 @@ use Rattle.receiver.specs.History.{Event, Opened}
 use Rattle.receiver.specs.Blocks.{Block}
 use Rattle.receiver.specs.Stands.{Stands, GoesOn}
 use Rattle.receiver.specs.Runs.{PacketStep, packet_event, packets_in, stopped_at, Runs, with_run}
-use Rattle.receiver.proofs.Bytes.{packets_more}
+use Rattle.receiver.proofs.Bytes.{packets_front}
 use Rattle.receiver.proofs.Law.{goes_on}
 
-pub run_took : (s : ℕ) (m mid m' : Block Cell) (rest : List ℕ) (n at : ℕ) (r : Result ℕ Stopped) → 0 < length rest → PacketStep m s (take 68 rest) (Ok (tt {0})) mid → Runs s mid (packets_in (drop 68 rest)) (n + 1) (at + 68) r m' → Runs s m (packets_in rest) n at r m'
-run_took s m mid m' rest n at r some step runs = subst (λ ps. Runs s m ps n at r m') (sym (packets_more rest some)) (inl (mid, step, runs))
+-- a packet more at the front, where n packets were taken before it
+pub run_took : (s : ℕ) (m mid m' : Block Cell) (bs p rest : List ℕ) (n : ℕ) (r : Result ℕ Stopped) → bs ≡ p ++ rest → length p ≡ min 68 (length bs) → 0 < length bs → PacketStep m s p (Ok (tt {0})) mid
+    → Runs s mid (packets_in rest) (n + 1) ((n + 1) * 68) r m' → Runs s m (packets_in bs) n (n * 68) r m'
+run_took s m mid m' bs p rest n r e l some step runs =
+    let at : (n + 1) * 68 ≡ n * 68 + 68 = omega arith in
+    subst (λ ps. Runs s m ps n (n * 68) r m') (sym (packets_front bs p rest e l some)) (inl (mid, step, subst (λ k. Runs s mid (packets_in rest) (n + 1) k r m') at runs))
 
-pub run_stopped : (s : ℕ) (m m' : Block Cell) (rest : List ℕ) (n at : ℕ) (f : Layer) → 0 < length rest → PacketStep {U = Unit {0}} m s (take 68 rest) (Err f) m' → Runs s m (packets_in rest) n at (Err (stopped_at at f)) m'
-run_stopped s m m' rest n at f some step = subst (λ ps. Runs s m ps n at (Err (stopped_at at f)) m') (sym (packets_more rest some)) (inr (f, step, refl))
+pub run_stopped : (s : ℕ) (m m' : Block Cell) (bs p rest : List ℕ) (n at : ℕ) (f : Layer) → bs ≡ p ++ rest → length p ≡ min 68 (length bs) → 0 < length bs → PacketStep {U = Unit {0}} m s p (Err f) m' → Runs s m (packets_in bs) n at (Err (stopped_at at f)) m'
+run_stopped s m m' bs p rest n at f e l some step = subst (λ ps. Runs s m ps n at (Err (stopped_at at f)) m') (sym (packets_front bs p rest e l some)) (inr (f, step, refl))
 
 -- where a refused run stopped
 abbrev stopped_of : Stopped → Result ℕ Stopped → Stopped
@@ -25,7 +28,7 @@ stopped_of d (Err e) = e
 
 -- a run stops at the place where it is, or later
 stops_later : (s : ℕ) (ps : List (List ℕ)) (m m' : Block Cell) (n at : ℕ) (e : Stopped) → Runs s m ps n at (Err e) m' → at ≤ e.at
-stops_later s [] m m' n at e u = let z : ◌≡◌ {A = ℕ} 0 1 = let f = u.0 in cc in absurd (omega arith)
+stops_later s [] m m' n at e u = let f = u.0 in cc
 stops_later s (p ∷ ps) m m' n at e (inl u) = let l = stops_later s ps u.0 m' (n + 1) (at + 68) e u.2 in omega arith
 stops_later s (p ∷ ps) m m' n at e (inr u) = let z = ap (λ d. d.at) (ap (stopped_of e) u.2) in omega arith
 
@@ -42,7 +45,7 @@ module _ (s : ℕ) where
   run_goes_on [] m m' n at r few u o h t = subst (Stands cell_kind o h) (sym u.1) t
   run_goes_on (p ∷ ps) m m' n at (Ok k) few (inl u) o h t =
       run_goes_on ps u.0 m' (n + 1) (at + 68) (Ok k) (omega (arith, same_places m u.0 p u.1)) u.2 o _ (packet_goes_on m u.0 p (Ok (tt {0})) few u.1 o h t)
-  run_goes_on (p ∷ ps) m m' n at (Ok k) few (inr u) o h t = let f = u.2 in let z : ◌≡◌ {A = ℕ} 0 1 = cc in absurd (omega arith)
+  run_goes_on (p ∷ ps) m m' n at (Ok k) few (inr u) o h t = let f = u.2 in cc
   run_goes_on (p ∷ ps) m m' n at (Err e) few (inl u) o h t =
       let later = stops_later s ps u.0 m' (n + 1) (at + 68) e u.2 in
       go (eqb e.at at) refl later (run_goes_on ps u.0 m' (n + 1) (at + 68) (Err e) (omega (arith, same_places m u.0 p u.1)) u.2 o _ (packet_goes_on m u.0 p (Ok (tt {0})) few u.1 o h t))
@@ -56,4 +59,4 @@ module _ (s : ℕ) where
     where
       stops : (b : Bool) → b ≡ true → Stands cell_kind o (cond b (packet_event {U = Unit {0}} s p (Err u.0) ∷ h) (with_run s ps (at + 68) (Err (stopped_at at u.0)) (packet_event s p (Ok (tt {0})) ∷ h))) m'
       stops true is = packet_goes_on m m' p (Err u.0) few u.1 o h t
-      stops false is = absurd (clash is)
+      stops false is = cc

@@ -32,8 +32,8 @@ use Rattle.receiver.proofs.Zeroing.{fill_same, fill_places}
 -- an answer of one codeword gives the filling that it was handed
 answered_one : {S : Type 0} (o : Option ℕ) (x y : ℕ) (fs : List ℕ) (u : List S) (v a : ℕ) (w : List S) → answer_at o x y fs u ≡ one v a w → w ≡ u
 answered_one None x y [] u v a w e = sym cc
-answered_one None x y (f ∷ fs) u v a w e = let z : ◌≡◌ {A = ℕ} 0 1 = cc in absurd (omega arith)
-answered_one (Some r) x y fs u v a w e = let z : ◌≡◌ {A = ℕ} 0 1 = cc in absurd (omega arith)
+answered_one None x y (f ∷ fs) u v a w e = cc
+answered_one (Some r) x y fs u v a w e = cc
 
 -- with one codeword, the filling that the method gives is read from its last rows
 pub one_filled : {S P : Type 0} (K : Kind S) (choice : Choice P) (k : Matrix) (got : List Bool) (syms : List S) (p : P) (v a : ℕ) (w : List S)
@@ -45,9 +45,9 @@ one_filled K choice k got syms p v a w e =
 
 -- an answer that is granted is the method's one
 pub told_one : {S : Type 0} (o : Outcome S) (r : Report) → ◌≡◌ {A = Result Report Unfound} (Ok r) (told o) → (v : ℕ) × (a : ℕ) × (w : List S) × (o ≡ one v a w) × (r ≡ report_of v a)
-told_one (none v a) r e = let z : ◌≡◌ {A = ℕ} 0 1 = cc in absurd (omega arith)
+told_one (none v a) r e = cc
 told_one (one v a w) r e = (v, a, w, refl, cc)
-told_one (several v a f) r e = let z : ◌≡◌ {A = ℕ} 0 1 = cc in absurd (omega arith)
+told_one (several v a f) r e = cc
 
 -- functions that agree below n have the same table
 table_same : {X : Type 0} (n : ℕ) (f g : ℕ → X) → ((c : ℕ) → c < n → f c ≡ g c) → table n f ≡ table n g
@@ -67,7 +67,7 @@ lack u (Err e) = e
 told_lack : {S : Type 0} (m : Block S) (o : Outcome S) (e : Unfound) → ◌≡◌ {A = Result Report Unfound} (Err e) (told o)
     → (◌≡◌ {A = Result Permit Unsolved} (Err (as_unsolved e)) (answer_of (found_of m o))) × (after_search m o ≡ m)
 told_lack m (none v a) e is = (ap (λ u. Err (as_unsolved (lack e u))) is, refl)
-told_lack m (one v a w) e is = let z : ◌≡◌ {A = ℕ} 0 1 = cc in absurd (omega arith)
+told_lack m (one v a w) e is = cc
 told_lack m (several v a f) e is = (ap (λ u. Err (as_unsolved (lack e u))) is, refl)
 
 module _ {S P : Type 0} (K : Kind S) (choice : Matrix → Choice P) (k : Matrix) (m : Block S) (p p' : P) (ws ws' : List ℕ) (ss ss' : List S) where
@@ -77,7 +77,7 @@ module _ {S P : Type 0} (K : Kind S) (choice : Matrix → Choice P) (k : Matrix)
     where
       go : (o : Option Unfound) → ◌≡◌ {A = Result Report Unfound} (Ok f.report) (searches.searched_by K choice k m.received (take m.n m.table) p ws ss o).answer → o ≡ None
       go None e = refl
-      go (Some u) e = let z : ◌≡◌ {A = ℕ} 0 1 = cc in absurd (omega arith)
+      go (Some u) e = cc
 
   -- a solve that granted reached its search
   granted_reached : (f : Seen) → Sought K choice k m p p' ws ws' ss ss' (Ok f)
@@ -89,8 +89,8 @@ module _ {S P : Type 0} (K : Kind S) (choice : Matrix → Choice P) (k : Matrix)
           → SoughtBy K choice k m (cond out (Some (fault.PermitOut m.stamp)) (cond (not same) (Some (fault.OtherWidth k.width)) None)) p p' ws ws' ss ss' (Ok f)
           → (k.width ≡ m.n) × (cond out (Some (fault.PermitOut m.stamp)) (cond (not same) (Some (fault.OtherWidth k.width)) (cond (short (height k) (length ws) (length ss)) (Some (fault.ShortMemory (height k))) None)) ≡ None)
           × Looked K choice k m.received (take m.n m.table) p ws ss p' ws' ss' (Ok f)
-      go true same e u = let z : ◌≡◌ {A = ℕ} 0 1 = let q = u.0 in cc in absurd (omega arith)
-      go false false e u = let z : ◌≡◌ {A = ℕ} 0 1 = let q = u.0 in cc in absurd (omega arith)
+      go true same e u = let q = u.0 in cc
+      go false false e u = let q = u.0 in cc
       go false true e u =
           let a = no_cause _ _ _ (ran f u) in
           let b = no_cause _ _ _ a.1 in

@@ -6,7 +6,7 @@
 --   filled, closed_block, renewed_block    the block after a granted call
 --   opened_by, opened    the block that an open answers, by its refusal or the first cause that refuses it
 --   fill_missing, zero_missing    a table with each missing place filled, or zero
-use Rattle.std.specs.Prelude.{ℕ, suc, Bool, true, false, cond, List, [], ◌∷◌, ◌++◌, length, take, drop, replicate, Some, None, count_by, Option, ◌==◌, nat_lt, slice_index_or, slice_set}
+use Rattle.std.specs.Prelude.{ℕ, suc, Bool, true, false, cond, List, [], ◌∷◌, ◌++◌, length, take, drop, replicate, Some, None, count_by, Option, nat_lt, slice_index_or, slice_set}
 use Rattle.symbols.specs.Kinds.{Kind}
 use Rattle.receiver.specs.declared.block.Out.{Out}
 use Rattle.receiver.specs.declared.block.Out.TheVariants.{Nothing}
@@ -15,7 +15,7 @@ use Rattle.receiver.specs.Refusals.{meaning, value_of}
 use Rattle.receiver.specs.Calls.{View, open_refusal}
 
 -- n places; the caller's whole table; a flag for each place that was received; number and value of the refusal of its
--- open, 0 where it was granted
+-- open, none where it was granted
 pub record Block (S : Type 0) : Type 0 where
   pub number : ℕ
   pub stamp : ℕ
@@ -23,8 +23,7 @@ pub record Block (S : Type 0) : Type 0 where
   pub table : List S
   pub received : List Bool
   pub out : Out
-  pub refusal : ℕ
-  pub value : ℕ
+  pub refused : Option (ℕ × ℕ)
 
 abbrev pub seen : {S : Type 0} → Block S → View
 seen m = record { number = m.number; stamp = m.stamp; places = m.n; out = m.out; has = λ p. slice_index_or m.received p false }
@@ -39,7 +38,7 @@ mark_at m p = cond (nat_lt p m.n) (Some (slice_index_or m.received p false)) Non
 
 -- what a block tells of the refusal of its open
 abbrev pub told_refusal : {S : Type 0} → Block S → Option (ℕ × ℕ)
-told_refusal m = cond (m.refusal == 0) None (Some (m.refusal, m.value))
+told_refusal m = m.refused
 
 -- a table with each missing place filled by a function of its number
 abbrev pub fill_missing : {S : Type 0} → (ℕ → S) → List Bool → List S → List S
@@ -54,7 +53,7 @@ zero_missing z rs xs = fill_missing (λ c. z) rs xs
 -- the block with a table, flags and whether a permit is out
 abbrev pub with_table : {S : Type 0} → List S → List Bool → Out → Block S → Block S
 with_table xs rs out m =
-    record { number = m.number; stamp = m.stamp; n = m.n; table = xs; received = rs; out = out; refusal = m.refusal; value = m.value }
+    record { number = m.number; stamp = m.stamp; n = m.n; table = xs; received = rs; out = out; refused = m.refused }
 
 abbrev pub filled : {S : Type 0} → ℕ → S → Block S → Block S
 filled p x m = with_table (slice_set m.table p x) (slice_set m.received p true) m.out m
@@ -75,8 +74,7 @@ module _ {S : Type 0} (K : Kind S) where
     table = zeroed m.n m.table;
     received = replicate 512 false;
     out = m.out;
-    refusal = m.refusal;
-    value = m.value;
+    refused = m.refused;
   }
 
   -- refused: nothing of the table is the block's
@@ -88,8 +86,7 @@ module _ {S : Type 0} (K : Kind S) where
     table = xs;
     received = replicate 512 false;
     out = Nothing;
-    refusal = (meaning f).number;
-    value = value_of (meaning f);
+    refused = Some ((meaning f).number, value_of (meaning f));
   }
   opened_by None b s xs = record {
     number = b;
@@ -98,8 +95,7 @@ module _ {S : Type 0} (K : Kind S) where
     table = zeroed (length xs) xs;
     received = replicate 512 false;
     out = Nothing;
-    refusal = 0;
-    value = 0;
+    refused = None;
   }
 
   abbrev pub opened : ℕ → ℕ → List S → Block S

@@ -11,13 +11,13 @@ mod steps;
 pub use steps::open_fault;
 
 // Whether a permit is out.
-#[derive(Clone, Copy)]
+#[derive(Clone, Copy, PartialEq, Eq, Debug)]
 pub enum Out {
     Nothing,
     Full,
 }
 
-// What a block keeps beside its table. The refusal of an open lies in it as plain numbers; 0 is none.
+// What a block keeps beside its table. The refusal of its open lies in it as plain numbers: its number and its value.
 #[derive(Clone, Copy)]
 pub struct Marks {
     number: u32,
@@ -25,8 +25,7 @@ pub struct Marks {
     n: usize,
     received: [bool; 512],
     out: Out,
-    refusal: u8,
-    value: u64,
+    refused: Option<(u8, u64)>,
     ghost few: { n ≤ 512 },
     ghost flags: { length received ≡ 512 },
 }

@@ -1,13 +1,14 @@
 // Why a call on a block is refused, and what a search reports.
 ghost use Rattle.std.specs.Prelude.{◌≡◌};
 ghost use Rattle.receiver.specs.Refusals.{meaning, value_of};
+ghost use Rattle.receiver.specs.Solves.{as_unsolved};
 
-use search::Report;
+use search::{Report, Unfound};
 
 // A refresh time in seconds, from the host. 0 is no stamp.
 pub type Stamp = u32;
 
-#[derive(Clone, Copy)]
+#[derive(Clone, Copy, PartialEq, Eq, Debug)]
 pub enum Fault {
     BlockNumber(u32),
     NoStamp,
@@ -24,7 +25,7 @@ pub enum Fault {
 }
 
 // Why a solve gave no permit: it was refused before its search, or its search found no codeword or several.
-#[derive(Clone, Copy)]
+#[derive(Clone, Copy, PartialEq, Eq, Debug)]
 pub enum Unsolved {
     Refused(Fault),
     NoCodeword(Report),
@@ -58,13 +59,27 @@ impl Fault {
     {
         match self {
             Fault::NoStamp => 0,
-            Fault::BlockNumber(b) | Fault::OtherBlock(b) => b as u64,
+            Fault::BlockNumber(b) | Fault::OtherBlock(b) => u64::from(b),
             Fault::TableLength(n) | Fault::OtherWidth(n) | Fault::ShortMemory(n) => n as u64,
-            Fault::NoPlace(p) | Fault::Received(p) => p as u64,
+            Fault::NoPlace(p) | Fault::Received(p) => u64::from(p),
             Fault::PermitOut(s)
             | Fault::OtherStamp(s)
             | Fault::NotLater(s)
-            | Fault::NotItsPermit(s) => s as u64,
+            | Fault::NotItsPermit(s) => u64::from(s),
+        }
+    }
+}
+
+// Why a search gave no codeword, as a solve tells it.
+impl From<Unfound> for Unsolved {
+    ghost from_gives = { λ e r. r ≡ as_unsolved e };
+
+    fn from(e: Unfound) -> Unsolved {
+        match e {
+            Unfound::OtherWidth(n) => Unsolved::Refused(Fault::OtherWidth(n)),
+            Unfound::ShortMemory(m) => Unsolved::Refused(Fault::ShortMemory(m)),
+            Unfound::NoCodeword(report) => Unsolved::NoCodeword(report),
+            Unfound::Several(report, shortfall) => Unsolved::Several(report, shortfall),
         }
     }
 }

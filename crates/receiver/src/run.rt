@@ -6,13 +6,13 @@ use crate::fault::Fault;
 use packets::HeaderFault;
 
 // The layer that refused a packet, with its fault.
-#[derive(Clone, Copy)]
+#[derive(Clone, Copy, PartialEq, Eq, Debug)]
 pub enum Layer {
     Header(HeaderFault),
     Block(Fault),
 }
 
-#[derive(Clone, Copy)]
+#[derive(Clone, Copy, PartialEq, Eq, Debug)]
 pub struct Stopped {
     pub at: usize,
     pub fault: Layer,

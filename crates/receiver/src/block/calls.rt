@@ -1,15 +1,15 @@
 // The calls on a block, all but solve. Each contract says what the call does (step) and that the promise over all
 // histories goes on with it (history); lent says that the block still holds the caller's table.
-ghost use Rattle.std.specs.Prelude.{◌≡◌, false, cond, [], ◌∷◌, length, is_ok, IfErr, Some, None};
+ghost use Rattle.std.specs.Prelude.{◌≡◌, false, [], ◌∷◌, length, is_ok, IfErr, None};
 ghost use Rattle.receiver.specs.Calls.{open_refusal};
-ghost use Rattle.receiver.specs.History.{Opened};
 ghost use Rattle.packets.specs.Figure.{percent};
 ghost use Rattle.receiver.specs.Blocks.{opened, told_refusal, received_count, mark_at};
 ghost use Rattle.receiver.specs.Steps.{Step, receive_event, show_event, close_event, renew_event};
 ghost use Rattle.receiver.specs.Stands.{Stands, GoesOn, opening};
 ghost use Rattle.receiver.specs.View.{model};
 
-use crate::block::Block;
+use crate::block::steps::{blank, open_fault};
+use crate::block::{Block, Out};
 use crate::fault::{Fault, Stamp};
 use crate::permit::{Permit, Unclosed};
 use symbols::Symbol;
@@ -22,17 +22,26 @@ impl<'a, S: Symbol> Block<'a, S> {
         ensures values { model result ≡ opened S.Symbol.kind number stamp table.old }
         ensures history { open_refusal number stamp (length table.old) ≡ None → Stands S.Symbol.kind (opening number stamp (length table.old)) [] (model result) }
     {
-        Block::begun(number, stamp, table)
+        let n = table.len();
+        if let Some(fault) = open_fault(number, stamp, n) {
+            return Block {
+                table,
+                marks: blank(0, 0, Some((fault.number(), fault.value()))),
+            };
+        }
+        let mut block = Block {
+            table,
+            marks: blank(number, n, None),
+        };
+        block.begin(stamp);
+        block
     }
 
     // The number and the value of the refusal of its open, if that was refused.
     pub fn refusal(&self) -> Option<(u8, u64)>
         ensures { result ≡ told_refusal (model self.now) }
     {
-        if self.marks.refusal == 0 {
-            return None;
-        }
-        Some((self.marks.refusal, self.marks.value))
+        self.marks.refused
     }
 
     // Takes a packet into its place.
@@ -41,7 +50,25 @@ impl<'a, S: Symbol> Block<'a, S> {
         ensures step { Step S.Symbol.kind (model self.old) (receive_event number stamp place symbol result) (model self.new) }
         ensures history { GoesOn S.Symbol.kind (model self.old) (receive_event number stamp place symbol result ∷ []) (model self.new) }
     {
-        self.take(number, stamp, place, symbol)
+        if self.marks.out.is_out() {
+            return Err(Fault::PermitOut(self.marks.stamp));
+        }
+        if number != self.marks.number {
+            return Err(Fault::OtherBlock(number));
+        }
+        if stamp != self.marks.stamp {
+            return Err(Fault::OtherStamp(self.marks.stamp));
+        }
+        let p = place as usize;
+        if p >= self.marks.n {
+            return Err(Fault::NoPlace(place));
+        }
+        if self.marks.received[p] {
+            return Err(Fault::Received(place));
+        }
+        self.table[p] = symbol;
+        self.marks.received[p] = true;
+        Ok(())
     }
 
     // Copies the packet of a place to the caller, under a permit.
@@ -50,7 +77,15 @@ impl<'a, S: Symbol> Block<'a, S> {
         ensures kept { is_ok result ≡ false → into.new ≡ into.old }
         ensures history { GoesOn S.Symbol.kind (model self.now) (show_event permit.now place into.new result ∷ []) (model self.now) }
     {
-        self.copy_out(permit, place, into)
+        if !self.owns(permit) {
+            return Err(Fault::NotItsPermit(self.marks.stamp));
+        }
+        let table = &self.table[..self.marks.n];
+        let Some(symbol) = table.get(place as usize) else {
+            return Err(Fault::NoPlace(place));
+        };
+        *into = *symbol;
+        Ok(())
     }
 
     // Takes the permit back and makes every missing place zero. Refused, it gives the permit back.
@@ -60,7 +95,16 @@ impl<'a, S: Symbol> Block<'a, S> {
         ensures back { IfErr result (λ e. e.permit ≡ permit) }
         ensures history { GoesOn S.Symbol.kind (model self.old) (close_event permit result ∷ []) (model self.new) }
     {
-        self.shut(permit)
+        if !self.owns(&permit) {
+            return Err(Unclosed {
+                stamp: self.marks.stamp,
+                permit,
+            });
+        }
+        permit.spend();
+        self.clear_missing();
+        self.marks.out = Out::Nothing;
+        Ok(())
     }
 
     // Starts over under a later stamp: every place zero and missing.
@@ -69,18 +113,25 @@ impl<'a, S: Symbol> Block<'a, S> {
         ensures step { Step S.Symbol.kind (model self.old) (renew_event stamp result) (model self.new) }
         ensures history { GoesOn S.Symbol.kind (model self.old) (renew_event stamp result ∷ []) (model self.new) }
     {
-        self.restart(stamp)
+        if self.marks.out.is_out() {
+            return Err(Fault::PermitOut(self.marks.stamp));
+        }
+        if stamp == 0 {
+            return Err(Fault::NoStamp);
+        }
+        if stamp <= self.marks.stamp {
+            return Err(Fault::NotLater(self.marks.stamp));
+        }
+        self.begin(stamp);
+        Ok(())
     }
 
     // Whether the packet of a place was received; none where there is no such place.
     pub fn mark(&self, place: u32) -> Option<bool>
         ensures { result ≡ mark_at (model self.now) place }
     {
-        let p = place as usize;
-        if p >= self.marks.n {
-            return None;
-        }
-        Some(self.marks.received[p])
+        let received = &self.marks.received[..self.marks.n];
+        received.get(place as usize).copied()
     }
 
     // How much of the block was received, in whole percent.

@@ -1,31 +1,19 @@
 // Solve: the search on a block's table, and the permit where just one codeword agrees.
-ghost use Rattle.std.specs.Prelude.{◌≡◌, ℕ, ◌<◌, ◌≤◌, [], ◌∷◌, length, take};
+ghost use Rattle.std.specs.Prelude.{◌≡◌, [], ◌∷◌, length, take};
 ghost use Rattle.search.specs.Found.{symbol_at, wiped};
 ghost use Rattle.receiver.specs.declared.block.Out.TheVariants.{Full};
 ghost use Rattle.receiver.specs.Blocks.{fill_missing, with_table};
-ghost use Rattle.receiver.specs.Solves.{Sought, as_unsolved, solved, named, search_of, solve_event};
+ghost use Rattle.receiver.specs.Solves.{Sought, solved, named, search_of, solve_event};
 ghost use Rattle.receiver.specs.Stands.{GoesOn};
 ghost use Rattle.receiver.specs.View.{model};
 
-use crate::block::{Block, Out};
+use crate::block::{Block, Out, steps};
 use crate::fault::{Fault, Unsolved};
 use crate::permit::Permit;
 use codes::Code;
 use policies::Policy;
-use search::{Found, Unfound};
+use search::Found;
 use symbols::Symbol;
-
-// Why a search gave no codeword, as a solve tells it.
-fn unsolved(e: Unfound) -> Unsolved
-    ensures { result ≡ as_unsolved e }
-{
-    match e {
-        Unfound::OtherWidth(n) => Unsolved::Refused(Fault::OtherWidth(n)),
-        Unfound::ShortMemory(m) => Unsolved::Refused(Fault::ShortMemory(m)),
-        Unfound::NoCodeword(report) => Unsolved::NoCodeword(report),
-        Unfound::Several(report, shortfall) => Unsolved::Several(report, shortfall),
-    }
-}
 
 impl<'a, S: Symbol> Block<'a, S> {
     // Searches; with one codeword the right sides are left to be read out.
@@ -46,17 +34,15 @@ impl<'a, S: Symbol> Block<'a, S> {
             return Err(Unsolved::Refused(Fault::OtherWidth(n)));
         }
         let table = &*self.table;
-        match search::look(
+        let found = search::look(
             code,
             policy,
-            &table[0..n],
+            &table[..n],
             &self.marks.received,
             words,
             sides,
-        ) {
-            Ok(found) => Ok(found),
-            Err(e) => Err(unsolved(e)),
-        }
+        )?;
+        Ok(found)
     }
 
     // Writes each missing place from the right sides that a search left.
@@ -65,11 +51,10 @@ impl<'a, S: Symbol> Block<'a, S> {
         ensures marks { self.new.marks ≡ self.old.marks }
         ensures table { self.new.table.now ≡ fill_missing (symbol_at S.Symbol.kind found.now sides.now) (take self.old.marks.n self.old.marks.received) self.old.table.now }
     {
-        for c in 0..self.marks.n {
-            if !self.marks.received[c] {
-                self.table[c] = found.symbol(sides, c);
-            }
-        }
+        let marks = &self.marks;
+        steps::fill_missing(self.table, &marks.received[..marks.n], |c| {
+            found.symbol(sides, c)
+        });
     }
 
     // Fills the missing places, wipes the right sides and gives a permit.
@@ -85,22 +70,6 @@ impl<'a, S: Symbol> Block<'a, S> {
         Permit::new(self.marks.number, self.marks.stamp, found.report())
     }
 
-    fn work_out<C: Code, P: Policy>(
-        &mut self,
-        code: &C,
-        policy: &mut P,
-        words: &mut [u64],
-        sides: &mut [S],
-    ) -> Result<Permit, Unsolved>
-        ensures lent { self.new.table.ghost_name ≡ self.old.table.ghost_name }
-        ensures done { record { answer = result; block = model self.new; policy = policy.new; words = words.new; sides = sides.new } ≡ solved S.Symbol.kind P.Policy.choice (C.Rows.matrix code.now) (model self.old) policy.old words.old sides.old }
-    {
-        match self.seek(code, policy, words, sides) {
-            Ok(found) => Ok(self.grant(&found, code.shape().rows, sides)),
-            Err(e) => Err(e),
-        }
-    }
-
     // Searches for the one codeword that agrees with what was received, fills the missing places and gives a permit.
     pub fn solve<C: Code, P: Policy>(
         &mut self,
@@ -113,6 +82,7 @@ impl<'a, S: Symbol> Block<'a, S> {
         ensures step { record { answer = result; block = model self.new; policy = policy.new; words = words.new; sides = sides.new } ≡ solved S.Symbol.kind P.Policy.choice (C.Rows.matrix code.now) (model self.old) policy.old words.old sides.old }
         ensures history { GoesOn S.Symbol.kind (model self.old) (solve_event (search_of (C.Rows.matrix code.now) (length words.old) (length sides.old)) (named S.Symbol.kind P.Policy.choice (C.Rows.matrix code.now) (model self.old) policy.old) result ∷ []) (model self.new) }
     {
-        self.work_out(code, policy, words, sides)
+        let found = self.seek(code, policy, words, sides)?;
+        Ok(self.grant(&found, code.shape().rows, sides))
     }
 }

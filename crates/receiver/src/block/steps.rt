@@ -1,24 +1,19 @@
-// What each call on a block does, all but solve.
-ghost use Rattle.std.specs.Prelude.{◌≡◌, ℕ, ◌<◌, ◌≤◌, false, [], ◌∷◌, length, take, replicate, is_ok, IfErr};
-ghost use Rattle.symbols.specs.Kinds.{Kind};
+// The steps that the calls on a block are made of, and what refuses an open.
+ghost use Rattle.std.specs.Prelude.{◌≡◌, ℕ, ◌≤◌, length, take};
 ghost use Rattle.receiver.specs.Calls.{is_out, owns as own, open_refusal};
-ghost use Rattle.receiver.specs.Blocks.{Block as Values, seen, zero_missing, renewed_block, opened, received_count};
-ghost use Rattle.receiver.specs.Steps.{Step, receive_event, show_event, close_event, renew_event};
+ghost use Rattle.receiver.specs.Blocks.{fill_missing as missing_filled, seen, zero_missing, renewed_block, received_count};
 ghost use Rattle.receiver.specs.View.{model, Blank};
 
 use crate::block::{Block, Marks, Out};
 use crate::fault::{Fault, Stamp};
-use crate::permit::{Permit, Unclosed};
+use crate::permit::Permit;
 use symbols::Symbol;
 
 impl Out {
     pub(crate) fn is_out(self) -> bool
         ensures { result ≡ is_out self }
     {
-        match self {
-            Out::Nothing => false,
-            Out::Full => true,
-        }
+        matches!(self, Out::Full)
     }
 }
 
@@ -32,115 +27,28 @@ impl<'a, S: Symbol> Block<'a, S> {
             && permit.stamp() == self.marks.stamp
     }
 
-    pub(crate) fn take(
-        &mut self,
-        number: u32,
-        stamp: Stamp,
-        place: u32,
-        symbol: S,
-    ) -> Result<(), Fault>
-        ensures lent { self.new.table.ghost_name ≡ self.old.table.ghost_name }
-        ensures step { Step S.Symbol.kind (model self.old) (receive_event number stamp place symbol result) (model self.new) }
-    {
-        if self.marks.out.is_out() {
-            return Err(Fault::PermitOut(self.marks.stamp));
-        }
-        if number != self.marks.number {
-            return Err(Fault::OtherBlock(number));
-        }
-        if stamp != self.marks.stamp {
-            return Err(Fault::OtherStamp(self.marks.stamp));
-        }
-        let p = place as usize;
-        if p >= self.marks.n {
-            return Err(Fault::NoPlace(place));
-        }
-        if self.marks.received[p] {
-            return Err(Fault::Received(place));
-        }
-        self.table[p] = symbol;
-        self.marks.received[p] = true;
-        Ok(())
-    }
-
-    pub(crate) fn copy_out(&self, permit: &Permit, place: u32, into: &mut S) -> Result<(), Fault>
-        ensures step { Step S.Symbol.kind (model self.now) (show_event permit.now place into.new result) (model self.now) }
-        ensures kept { is_ok result ≡ false → into.new ≡ into.old }
-    {
-        if !self.owns(permit) {
-            return Err(Fault::NotItsPermit(self.marks.stamp));
-        }
-        let p = place as usize;
-        if p >= self.marks.n {
-            return Err(Fault::NoPlace(place));
-        }
-        let table = &*self.table;
-        *into = table[p];
-        Ok(())
-    }
-
     // How many places were received.
     pub(crate) fn count_received(&self) -> u32
         ensures { result ≡ received_count (model self.now) }
     {
-        let mut count = 0;
-        for i in 0..self.marks.n {
-            if self.marks.received[i] {
-                count += 1;
-            }
-        }
-        count
+        self.marks.received[..self.marks.n]
+            .iter()
+            .filter(|got| **got)
+            .count() as u32
     }
 
     // Makes each missing place zero.
-    fn clear_missing(&mut self)
+    pub(crate) fn clear_missing(&mut self)
         ensures lent { self.new.table.ghost_name ≡ self.old.table.ghost_name }
         ensures marks { self.new.marks ≡ self.old.marks }
         ensures table { self.new.table.now ≡ zero_missing S.Symbol.kind.zero (take self.old.marks.n self.old.marks.received) self.old.table.now }
     {
-        for i in 0..self.marks.n {
-            if !self.marks.received[i] {
-                self.table[i] = S::zero();
-            }
-        }
-    }
-
-    pub(crate) fn shut(&mut self, permit: Permit) -> Result<(), Unclosed>
-        ensures lent { self.new.table.ghost_name ≡ self.old.table.ghost_name }
-        ensures step { Step S.Symbol.kind (model self.old) (close_event permit result) (model self.new) }
-        ensures back { IfErr result (λ e. e.permit ≡ permit) }
-    {
-        if !self.owns(&permit) {
-            return Err(Unclosed {
-                stamp: self.marks.stamp,
-                permit,
-            });
-        }
-        permit.spend();
-        self.clear_missing();
-        self.marks.out = Out::Nothing;
-        Ok(())
-    }
-
-    pub(crate) fn restart(&mut self, stamp: Stamp) -> Result<(), Fault>
-        ensures lent { self.new.table.ghost_name ≡ self.old.table.ghost_name }
-        ensures step { Step S.Symbol.kind (model self.old) (renew_event stamp result) (model self.new) }
-    {
-        if self.marks.out.is_out() {
-            return Err(Fault::PermitOut(self.marks.stamp));
-        }
-        if stamp == 0 {
-            return Err(Fault::NoStamp);
-        }
-        if stamp <= self.marks.stamp {
-            return Err(Fault::NotLater(self.marks.stamp));
-        }
-        self.begin(stamp);
-        Ok(())
+        let marks = &self.marks;
+        fill_missing(self.table, &marks.received[..marks.n], |_| S::zero());
     }
 
     // Makes every place zero and missing, under a stamp.
-    fn begin(&mut self, stamp: Stamp)
+    pub(crate) fn begin(&mut self, stamp: Stamp)
         ensures lent { self.new.table.ghost_name ≡ self.old.table.ghost_name }
         ensures values { model self.new ≡ renewed_block S.Symbol.kind stamp (model self.old) }
     {
@@ -150,25 +58,19 @@ impl<'a, S: Symbol> Block<'a, S> {
     }
 }
 
-impl<'a, S: Symbol> Block<'a, S> {
-    pub(crate) fn begun(number: u32, stamp: Stamp, table: &'a mut [S]) -> Block<'a, S>
-        ensures lent { result.table.ghost_name ≡ table.entry.ghost_name }
-        ensures values { model result ≡ opened S.Symbol.kind number stamp table.old }
-    {
-        match open_fault(number, stamp, table.len()) {
-            Some(fault) => Block {
-                table,
-                marks: blank(0, 0, fault.number(), fault.value()),
-            },
-            None => {
-                let n = table.len();
-                let mut block = Block {
-                    table,
-                    marks: blank(number, n, 0, 0),
-                };
-                block.begin(stamp);
-                block
-            }
+// Fills each place that was not received, by its number.
+pub(crate) fn fill_missing<S: Symbol, F: Fn(usize) -> S>(
+    table: &mut [S],
+    received: &[bool],
+    symbol: F,
+)
+    requires fits { length received.now ≤ length table.old }
+    requires callable { F.IsAlwaysCallable symbol }
+    ensures { (f : ℕ → S) → ((c : ℕ) (x : S) → F.post symbol c x → x ≡ f c) → table.new ≡ missing_filled f received.now table.old }
+{
+    for (c, got) in received.iter().enumerate() {
+        if !*got {
+            table[c] = symbol(c);
         }
     }
 }
@@ -178,9 +80,9 @@ const LAST_BLOCK: u32 = 4095;
 const MOST_PLACES: usize = 512;
 
 // Marks of a block with no stamp yet.
-fn blank(number: u32, n: usize, refusal: u8, value: u64) -> Marks
+pub(crate) fn blank(number: u32, n: usize, refused: Option<(u8, u64)>) -> Marks
     requires { n ≤ 512 }
-    ensures { Blank result number n refusal value }
+    ensures { Blank result number n refused }
 {
     Marks {
         number,
@@ -188,8 +90,7 @@ fn blank(number: u32, n: usize, refusal: u8, value: u64) -> Marks
         n,
         received: [false; 512],
         out: Out::Nothing,
-        refusal,
-        value,
+        refused,
     }
 }
 

@@ -16,7 +16,6 @@ returns g c =
         table = table i;
         received = (marks i).received;
         out = (marks i).out;
-        refusal = (marks i).refusal;
-        value = (marks i).value;
+        refused = (marks i).refused;
       };
     }

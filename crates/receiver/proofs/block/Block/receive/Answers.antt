@@ -1,5 +1,6 @@
+use Rattle.std.proofs.Common.{rules}
 use Rattle.receiver.proofs.Law.{goes_on}
 use Rattle.receiver.proofs.block.Block.receive.Goals as goal
 
-pub returns : goal.returns
-returns g c = record { lent = c.take.ensures.lent; step = c.take.ensures.step; history = goes_on g.S.Symbol.kind _ _ _ c.args.self.now.marks.few c.take.ensures.step }
+pub returns-clause-history : goal.returns-clause-history
+returns-clause-history g c = goes_on g.S.Symbol.kind _ _ _ c.args.self.now.marks.few (search rules)
