@@ -84,16 +84,16 @@ module _ {S P : Type 0} (K : Kind S) (choice : Matrix → Choice P) (k : Matrix)
   -- a permit bears the block's numbers, and is out
   permitted : (o : Option Fault) (ws : List ℕ) (ss : List S) (q : Permit) → ◌≡◌ {A = Result Permit Unsolved} (Ok q) (solved_by K choice k m p o ws ss).answer
       → (q ≡ permit_of m q.report) × ((solved_by K choice k m p o ws ss).block.out ≡ Full) × ((solved_by K choice k m p o ws ss).block.number ≡ m.number) × ((solved_by K choice k m p o ws ss).block.stamp ≡ m.stamp)
-  permitted (Some f) ws ss q e = let z : ◌≡◌ {A = ℕ} 0 1 = cc in absurd (omega arith)
+  permitted (Some f) ws ss q e = cc
   permitted None ws ss q e = go (outcome K choice k m p) e
     where
       go : (o : Outcome S) → ◌≡◌ {A = Result Permit Unsolved} (Ok q) (answer_of (found_of m o))
           → (q ≡ permit_of m q.report) × ((after_search m o).out ≡ Full) × ((after_search m o).number ≡ m.number) × ((after_search m o).stamp ≡ m.stamp)
-      go (none v a) e = let z : ◌≡◌ {A = ℕ} 0 1 = cc in absurd (omega arith)
+      go (none v a) e = cc
       go (one v a w) e =
           let same : q ≡ permit_of m _ = ap (λ r. elim r [ Ok a ↦ a | Err u ↦ q ]) e in
           (same ∙ sym (ap (λ a. permit_of m a.report) same), refl, refl, refl)
-      go (several v a f) e = let z : ◌≡◌ {A = ℕ} 0 1 = cc in absurd (omega arith)
+      go (several v a f) e = cc
 
   -- without a permit the block is as it was
   unpermitted : (o : Option Fault) (ws : List ℕ) (ss : List S) (u : Unsolved) → ◌≡◌ {A = Result Permit Unsolved} (Err u) (solved_by K choice k m p o ws ss).answer → (solved_by K choice k m p o ws ss).block ≡ m
@@ -102,7 +102,7 @@ module _ {S P : Type 0} (K : Kind S) (choice : Matrix → Choice P) (k : Matrix)
     where
       go : (o : Outcome S) → ◌≡◌ {A = Result Permit Unsolved} (Err u) (answer_of (found_of m o)) → after_search m o ≡ m
       go (none v a) e = refl
-      go (one v a w) e = let z : ◌≡◌ {A = ℕ} 0 1 = cc in absurd (omega arith)
+      go (one v a w) e = cc
       go (several v a f) e = refl
 
 module _ {S P : Type 0} (K : Kind S) (choice : Matrix → Choice P) (k : Matrix) (m m' : Block S) (p p' : P) (ws ws' : List ℕ) (ss ss' : List S) where
@@ -148,7 +148,7 @@ module _ {S P : Type 0} (K : Kind S) (choice : Matrix → Choice P) (k : Matrix)
 -- a skipped order leaves everything as it was
 module _ {S P : Type 0} (K : Kind S) (choice : Matrix → Choice P) (k : Matrix) (nw ns : ℕ) (m : Block S) (p : P) where
   none_or : {R : Type 0} (q : Permit) → ◌≡◌ {A = Option Permit} (Some q) None → R
-  none_or q e = let z : ◌≡◌ {A = ℕ} 0 1 = cc in absurd (omega arith)
+  none_or q e = cc
 
   pub not_shown : (q : Option Permit) (order : Order S) (place : ℕ) → order ≡ Show place → q ≡ None → Obeyed K choice k nw ns m m p p q None order NoPermit
   not_shown None order place is e =

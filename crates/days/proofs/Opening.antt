@@ -28,14 +28,14 @@ module _ {S : Type 0} (K : Kind S) (b s : ℕ) (xs : List S) where
     where
       go : (o : Option Fault) → ◌≡◌ {A = Option (ℕ × ℕ)} None (told_refusal (opened_by K o b s xs)) → o ≡ None
       go None e = refl
-      go (Some f) e = let g = e ∙ told_so f in let z : ◌≡◌ {A = ℕ} 0 1 = cc in absurd (omega arith)
+      go (Some f) e = let g = e ∙ told_so f in cc
 
   -- a block that tells a refusal tells the one of its open
   pub refusal_told : (m : Block S) (n v : ℕ) → m ≡ opened K b s xs → ◌≡◌ {A = Option (ℕ × ℕ)} (Some (n, v)) (told_refusal m) → (f : Fault) × (open_refusal b s (length xs) ≡ Some f) × (n ≡ (meaning f).number) × (v ≡ value_of (meaning f))
   refusal_told m n v is e = go (open_refusal b s (length xs)) (e ∙ ap told_refusal is)
     where
       go : (o : Option Fault) → ◌≡◌ {A = Option (ℕ × ℕ)} (Some (n, v)) (told_refusal (opened_by K o b s xs)) → (f : Fault) × (o ≡ Some f) × (n ≡ (meaning f).number) × (v ≡ value_of (meaning f))
-      go None e = let z : ◌≡◌ {A = ℕ} 0 1 = cc in absurd (omega arith)
+      go None e = cc
       go (Some f) e =
           let g = e ∙ told_so f in
           let p : ◌≡◌ {A = ℕ × ℕ} (n, v) ((meaning f).number, value_of (meaning f)) = cc in

@@ -1,10 +1,10 @@
 // A day on one block: its open, one call after another, and the log.
-ghost use Rattle.std.specs.Prelude.{◌≡◌, ℕ, ◌<◌, List, [], ◌∷◌, length, Some, None, slice_set};
+ghost use Rattle.std.specs.Prelude.{◌≡◌, [], length, Some, None};
 ghost use Rattle.receiver.specs.declared.block.Out.TheVariants.{Nothing};
-ghost use Rattle.receiver.specs.Stands.{Stands, opening};
+ghost use Rattle.receiver.specs.Stands.{Stands};
 ghost use Rattle.receiver.specs.History.{Opened};
 ghost use Rattle.receiver.specs.View.{model};
-ghost use Rattle.days.specs.Days.{now_of, day_on, DayTrue};
+ghost use Rattle.days.specs.Days.{Holding, now_of, day_on, DayTrue};
 ghost use Rattle.days.specs.Whole.{Day};
 
 use crate::obey::obey;
@@ -14,12 +14,16 @@ use policies::Policy;
 use receiver::{Block, Permit, Stamp};
 use symbols::Symbol;
 
-// Enters an answer in the log.
-fn enter<S: Symbol>(log: &mut [Entry<S>], i: usize, entry: Entry<S>)
-    requires { i < length log.old }
-    ensures { log.new ≡ slice_set log.old i entry }
+// Closes the block where a permit is left in hand.
+fn end<S: Symbol>(block: &mut Block<'_, S>, held: Option<Permit>)
+    requires { Holding (model block.old) held }
 {
-    log[i] = entry;
+    if let Some(permit) = held {
+        match block.close(permit) {
+            Ok(()) => {}
+            Err(_kept) => unreachable(),
+        }
+    }
 }
 
 // Obeys one order after another, and closes the block where a permit is left in hand.
@@ -37,22 +41,16 @@ fn serve<S: Symbol, C: Code, P: Policy>(
     ensures { (o : Opened) → Stands S.Symbol.kind o [] (model block.old) → DayTrue S.Symbol.kind o (day_on S.Symbol.kind P.Policy.choice (C.Rows.matrix code.now) (length words.old) (length sides.old) (Some (now_of (model block.old) policy.old None [])) orders.now log.new) }
 {
     let mut held: Option<Permit> = None;
-    for i in 0..orders.len() {
-        let (entry, next) = obey(block, held, code, policy, words, sides, orders[i]);
+    for (i, order) in orders.iter().enumerate() {
+        let (entry, next) = obey(block, held, code, policy, words, sides, *order);
         held = next;
-        enter(log, i, entry);
+        log[i] = entry;
     }
-    match held {
-        Some(permit) => match block.close(permit) {
-            Ok(()) => {}
-            Err(_kept) => unreachable(),
-        },
-        None => {}
-    }
+    end(block, held);
 }
 
 // Why a day was not begun: its open was refused, with the number and value of that refusal, or its log is not as long as its orders.
-#[derive(Clone, Copy)]
+#[derive(Clone, Copy, PartialEq, Eq, Debug)]
 pub enum Unbegun {
     Refused(u8, u64),
     LogLength(usize),
@@ -77,11 +75,9 @@ pub fn day<S: Symbol, C: Code, P: Policy>(
         return Err(Unbegun::LogLength(log.len()));
     }
     let mut block = Block::open(number, stamp, table);
-    match block.refusal() {
-        Some((cause, value)) => Err(Unbegun::Refused(cause, value)),
-        None => {
-            serve(&mut block, code, policy, words, sides, orders, log);
-            Ok(())
-        }
+    if let Some((cause, value)) = block.refusal() {
+        return Err(Unbegun::Refused(cause, value));
     }
+    serve(&mut block, code, policy, words, sides, orders, log);
+    Ok(())
 }

@@ -1,5 +1,5 @@
 // Obeying one order on a block.
-ghost use Rattle.std.specs.Prelude.{◌≡◌, ℕ, length, Some, None, Option};
+ghost use Rattle.std.specs.Prelude.{ℕ, length, Some, None, Option};
 ghost use Rattle.codes.specs.Matrix.{Matrix};
 ghost use Rattle.method.specs.Method.{Choice};
 ghost use Rattle.receiver.specs.View.{model};
@@ -29,15 +29,13 @@ fn obey_receive<S: Symbol, P>(
     place: u32,
     symbol: S,
 ) -> Entry<S>
-    ensures lent { block.new.table.ghost_name ≡ block.old.table.ghost_name }
-    ensures obeyed { (choice : Matrix → Choice P) (k : Matrix) (ws ss : ℕ) (p : P) (q : Option Permit) → Obeyed S.Symbol.kind choice k ws ss (model block.old) (model block.new) p p q q (Order.Receive number stamp place symbol) result }
+    ensures { (choice : Matrix → Choice P) (k : Matrix) (ws ss : ℕ) (p : P) (q : Option Permit) → Obeyed S.Symbol.kind choice k ws ss (model block.old) (model block.new) p p q q (Order.Receive number stamp place symbol) result }
 {
     Entry::Received(block.receive(number, stamp, place, symbol))
 }
 
 fn obey_renew<S: Symbol, P>(block: &mut Block<'_, S>, stamp: Stamp) -> Entry<S>
-    ensures lent { block.new.table.ghost_name ≡ block.old.table.ghost_name }
-    ensures obeyed { (choice : Matrix → Choice P) (k : Matrix) (ws ss : ℕ) (p : P) (q : Option Permit) → Obeyed S.Symbol.kind choice k ws ss (model block.old) (model block.new) p p q q (Order.Renew stamp) result }
+    ensures { (choice : Matrix → Choice P) (k : Matrix) (ws ss : ℕ) (p : P) (q : Option Permit) → Obeyed S.Symbol.kind choice k ws ss (model block.old) (model block.new) p p q q (Order.Renew stamp) result }
 {
     Entry::Renewed(block.renew(stamp))
 }
@@ -45,8 +43,7 @@ fn obey_renew<S: Symbol, P>(block: &mut Block<'_, S>, stamp: Stamp) -> Entry<S>
 // Closes the block under the permit in hand, which is the block's.
 fn obey_close<S: Symbol, P>(block: &mut Block<'_, S>, permit: Permit) -> Entry<S>
     requires { Holding (model block.old) (Some permit) }
-    ensures lent { block.new.table.ghost_name ≡ block.old.table.ghost_name }
-    ensures obeyed { (choice : Matrix → Choice P) (k : Matrix) (ws ss : ℕ) (p : P) → Obeyed S.Symbol.kind choice k ws ss (model block.old) (model block.new) p p (Some permit) None Order.Close result }
+    ensures { (choice : Matrix → Choice P) (k : Matrix) (ws ss : ℕ) (p : P) → Obeyed S.Symbol.kind choice k ws ss (model block.old) (model block.new) p p (Some permit) None Order.Close result }
 {
     match block.close(permit) {
         Ok(()) => Entry::Closed,
@@ -64,8 +61,7 @@ fn obey_solve<S: Symbol, C: Code, P: Policy>(
     sides: &mut [S],
 ) -> (Entry<S>, Option<Permit>)
     requires { Holding (model block.old) held }
-    ensures lent { block.new.table.ghost_name ≡ block.old.table.ghost_name }
-    ensures obeyed { Obeyed S.Symbol.kind P.Policy.choice (C.Rows.matrix code.now) (length words.old) (length sides.old) (model block.old) (model block.new) policy.old policy.new held result.1 Order.Solve result.0 }
+    ensures { Obeyed S.Symbol.kind P.Policy.choice (C.Rows.matrix code.now) (length words.old) (length sides.old) (model block.old) (model block.new) policy.old policy.new held result.1 Order.Solve result.0 }
 {
     match block.solve(code, policy, words, sides) {
         Ok(permit) => match held {
@@ -87,8 +83,7 @@ pub(crate) fn obey<S: Symbol, C: Code, P: Policy>(
     order: Order<S>,
 ) -> (Entry<S>, Option<Permit>)
     requires { Holding (model block.old) held }
-    ensures lent { block.new.table.ghost_name ≡ block.old.table.ghost_name }
-    ensures obeyed { Obeyed S.Symbol.kind P.Policy.choice (C.Rows.matrix code.now) (length words.old) (length sides.old) (model block.old) (model block.new) policy.old policy.new held result.1 order result.0 }
+    ensures { Obeyed S.Symbol.kind P.Policy.choice (C.Rows.matrix code.now) (length words.old) (length sides.old) (model block.old) (model block.new) policy.old policy.new held result.1 order result.0 }
 {
     match order {
         Order::Receive {
@@ -102,10 +97,7 @@ pub(crate) fn obey<S: Symbol, C: Code, P: Policy>(
         ),
         Order::Solve => obey_solve(block, held, code, policy, words, sides),
         Order::Show { place } => match held {
-            Some(permit) => {
-                let entry = obey_show::<S, P>(block, &permit, place);
-                (entry, Some(permit))
-            }
+            Some(permit) => (obey_show::<S, P>(block, &permit, place), Some(permit)),
             None => (Entry::NoPermit, None),
         },
         Order::Close => match held {

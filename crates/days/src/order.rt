@@ -2,7 +2,7 @@
 use receiver::{Fault, Stamp, Unsolved};
 use search::Report;
 
-#[derive(Clone, Copy)]
+#[derive(Clone, Copy, PartialEq, Eq, Debug)]
 pub enum Order<S> {
     Receive {
         number: u32,
@@ -20,7 +20,7 @@ pub enum Order<S> {
     },
 }
 
-#[derive(Clone, Copy)]
+#[derive(Clone, Copy, PartialEq, Eq, Debug)]
 pub enum Entry<S> {
     Received(Result<(), Fault>),
     Solved(Result<Report, Unsolved>),

@@ -57,15 +57,15 @@ module _ {S : Type 0} (K : Kind S) (k : Matrix) (m : Block S) (p : Named) where
   -- a permit bears the block's numbers, and is out
   permitted : (o : Option Fault) (q : Permit) → (solved_by K named_choice k m p o [] []).answer ≡ Ok q
       → (q ≡ permit_of m q.report) × Holding (solved_by K named_choice k m p o [] []).block (Some q)
-  permitted (Some f) q e = let z : ◌≡◌ {A = ℕ} 0 1 = cc in absurd (omega arith)
+  permitted (Some f) q e = cc
   permitted None q e = go (outcome K named_choice k m p) e
     where
       go : (o : Outcome S) → answer_of (found_of m o) ≡ Ok q → (q ≡ permit_of m q.report) × Holding (after_search m o) (Some q)
-      go (none v a) e = let z : ◌≡◌ {A = ℕ} 0 1 = cc in absurd (omega arith)
+      go (none v a) e = cc
       go (one v a w) e =
           let same : q ≡ permit_of m _ = sym (ap (λ r. elim r [ Ok a ↦ a | Err u ↦ q ]) e) in
           (same ∙ sym (ap (λ a. permit_of m a.report) same), (refl, ap (λ a. a.number) same, ap (λ a. a.stamp) same))
-      go (several v a f) e = let z : ◌≡◌ {A = ℕ} 0 1 = cc in absurd (omega arith)
+      go (several v a f) e = cc
 
   -- without a permit the block is as it was
   unpermitted : (o : Option Fault) (u : Unsolved) → (solved_by K named_choice k m p o [] []).answer ≡ Err u → (solved_by K named_choice k m p o [] []).block ≡ m
@@ -74,7 +74,7 @@ module _ {S : Type 0} (K : Kind S) (k : Matrix) (m : Block S) (p : Named) where
     where
       go : (o : Outcome S) → answer_of (found_of m o) ≡ Err u → after_search m o ≡ m
       go (none v a) e = refl
-      go (one v a w) e = let z : ◌≡◌ {A = ℕ} 0 1 = cc in absurd (omega arith)
+      go (one v a w) e = cc
       go (several v a f) e = refl
 
 module _ {S : Type 0} (K : Kind S) (k : Matrix) (p : PolicyName) (ws ss : ℕ) (m m' : Block S) where
@@ -91,7 +91,7 @@ module _ {S : Type 0} (K : Kind S) (k : Matrix) (p : PolicyName) (ws ss : ℕ) (
   none_while_out a q h s = go (refusal K (seen m) (solve (search_of k ws ss))) refl s.answer
     where
       go : (o : Option Fault) → refusal K (seen m) (solve (search_of k ws ss)) ≡ o → (solved_by K named_choice k m (record { name = p }) o [] []).answer ≡ Ok q → ⊥
-      go (Some f) is e = let z : ◌≡◌ {A = ℕ} 0 1 = cc in omega arith
+      go (Some f) is e = cc
       go None is e = clash (sym (no_cause _ _ _ is).0 ∙ ap is_out h.0)
 
 pub free_for : {S : Type 0} (K : Kind S) (k : Result Matrix Cause) (p : PolicyName) (ws ss : ℕ) (m m' : Block S) (q : Option Permit) (r : Result Permit Unsolved) → Holding m q → PileSolved K k p ws ss m (Ok r) m' → FreeFor q r

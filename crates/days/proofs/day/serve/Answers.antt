@@ -1,4 +1,4 @@
-use Rattle.std.proofs.Common.{◌≡◌, ◌+◌, ◌<◌, [], ◌∷◌, ◌++◌, length, take, Some, None, sym, refl, ap, ◌∙◌, subst, arith, length-set, rules}
+use Rattle.std.proofs.Common.{◌≡◌, ◌+◌, ◌<◌, [], ◌∷◌, ◌++◌, length, take, set, Some, None, sym, refl, ap, ◌∙◌, subst, arith}
 use Rattle.std.proofs.lemmas.List.{take_more, take_more_set, take_all}
 use Rattle.receiver.specs.View.{model}
 use Rattle.days.specs.Days.{now_of, on, day_on}
@@ -6,44 +6,41 @@ use Rattle.days.proofs.Obeying.{day_more, day_true}
 use Rattle.days.proofs.day.serve.Goals as goal
 
 pub loop-i-init : goal.loop-i-init
-loop-i-init g c = (refl, c.requires.fresh, c.requires.long, refl, refl, ([], refl, λ o s. s))
+loop-i-init g c = record { holding = c.requires.fresh; so_far = ([], refl, λ o s. s) }
 
 pub loop-i-preserved : goal.loop-i-preserved
 loop-i-preserved g c =
     let inv = c.loop-i.invariant in
-    let done = c.obey-entry.ensures.obeyed in
+    let done = c.obey-entry.ensures in
     let i = c.loop-i.i in
     let K = g.S.Symbol.kind in
     let choice = g.P.Policy.choice in
     let k = g.C.Rows.matrix c.args.code.now in
+    let nw = length c.args.words.now in
+    let ns = length c.args.sides.now in
     let order = c.index-orders-i.result in
     let entry = c.obey-entry.result.0 in
-    let h = inv.5.0 in
+    let h = inv.so_far.0 in
     let x = now_of (model c.loop-i.block) c.loop-i.policy c.loop-i.held h in
     let y = now_of (model c.obey-entry.new.block) c.obey-entry.new.policy c.obey-entry.result.1 (done.events ++ h) in
-    let words : length c.obey-entry.new.words ≡ length c.loop-i.words = search rules in
-    let sides : length c.obey-entry.new.sides ≡ length c.loop-i.sides = search rules in
     let inside : i < length c.args.orders.now = c.loop-i-test.true in
-    let room : i < length c.loop-i.log = omega (arith, inside, inv.2) in
-    let told : on K choice k (length c.args.words.now) (length c.args.sides.now) x order entry ≡ Some y =
-    subst (λ n. on K choice k n (length c.args.sides.now) x order entry ≡ Some y) inv.3 (subst (λ n. on K choice k (length c.loop-i.words) n x order entry ≡ Some y) inv.4 (done.told h)) in
+    let room : i < length c.loop-i.log = omega (arith, inside, c.loop-i.auto.log, c.requires.long) in
+    let told : on K choice k nw ns x order entry ≡ Some y =
+    subst (λ n. on K choice k n ns x order entry ≡ Some y) c.loop-i.auto.words (subst (λ n. on K choice k (length c.loop-i.words) n x order entry ≡ Some y) c.loop-i.auto.sides (done.told h)) in
     let orders : take (i + 1) c.args.orders.now ≡ take i c.args.orders.now ++ order ∷ [] = take_more c.args.orders.now i order inside ∙ ap (λ o. take i c.args.orders.now ++ o ∷ []) (sym c.index-orders-i.is) in
-    let log : take (i + 1) c.enter.new.log ≡ take i c.loop-i.log ++ entry ∷ [] = ap (take (i + 1)) c.enter.ensures ∙ take_more_set c.loop-i.log i entry room in (
-      c.obey-entry.ensures.lent ∙ inv.0,
-      done.holding inv.1,
-      ap length c.enter.ensures ∙ length-set c.loop-i.log i entry ∙ inv.2,
-      words ∙ inv.3,
-      sides ∙ inv.4,
-      (
+    let log : take (i + 1) (set c.loop-i.log i entry) ≡ take i c.loop-i.log ++ entry ∷ [] = take_more_set c.loop-i.log i entry room in
+    record {
+      holding = done.holding inv.holding;
+      so_far = (
         done.events ++ h,
-        (λ j. day_on K choice k (length c.args.words.now) (length c.args.sides.now) (Some (now_of (model c.args.block.now) c.args.policy.now None [])) (orders j) (log j))
-            ∙ day_more K choice k (length c.args.words.now) (length c.args.sides.now) (Some (now_of (model c.args.block.now) c.args.policy.now None [])) (take i c.args.orders.now) (take i c.loop-i.log) order entry x y inv.5.1 told,
-        λ o s. done.history o h (inv.5.2 o s),
-      ),
-    )
+        (λ j. day_on K choice k nw ns (Some (now_of (model c.args.block.now) c.args.policy.now None [])) (orders j) (log j))
+            ∙ day_more K choice k nw ns (Some (now_of (model c.args.block.now) c.args.policy.now None [])) (take i c.args.orders.now) (take i c.loop-i.log) order entry x y inv.so_far.1 told,
+        λ o s. done.history o h (inv.so_far.2 o s),
+      );
+    }
 
-pub returns-in-Ok : goal.returns-in-Ok
-returns-in-Ok g c o s =
+pub returns : goal.returns
+returns g c o s =
     let inv = c.loop-i.invariant in
     let i = c.loop-i.i in
     let K = g.S.Symbol.kind in
@@ -53,19 +50,5 @@ returns-in-Ok g c o s =
     let ns = length c.args.sides.now in
     let start = Some (now_of (model c.args.block.now) c.args.policy.now None []) in
     let orders : take i c.args.orders.now ≡ c.args.orders.now = take_all i c.args.orders.now c.loop-i-test.false in
-    let log : take i c.loop-i.log ≡ c.loop-i.log = take_all i c.loop-i.log (omega (arith, inv.2, c.loop-i-test.false)) in
-    day_true K choice k nw ns o _ (model c.loop-i.block) c.loop-i.policy c.loop-i.held inv.5.0 ((λ j. day_on K choice k nw ns start (sym orders j) (sym log j)) ∙ inv.5.1) (inv.5.2 o s).truths
-
-pub returns-in-None : goal.returns-in-None
-returns-in-None g c o s =
-    let inv = c.loop-i.invariant in
-    let i = c.loop-i.i in
-    let K = g.S.Symbol.kind in
-    let choice = g.P.Policy.choice in
-    let k = g.C.Rows.matrix c.args.code.now in
-    let nw = length c.args.words.now in
-    let ns = length c.args.sides.now in
-    let start = Some (now_of (model c.args.block.now) c.args.policy.now None []) in
-    let orders : take i c.args.orders.now ≡ c.args.orders.now = take_all i c.args.orders.now c.loop-i-test.false in
-    let log : take i c.loop-i.log ≡ c.loop-i.log = take_all i c.loop-i.log (omega (arith, inv.2, c.loop-i-test.false)) in
-    day_true K choice k nw ns o _ (model c.loop-i.block) c.loop-i.policy c.loop-i.held inv.5.0 ((λ j. day_on K choice k nw ns start (sym orders j) (sym log j)) ∙ inv.5.1) (inv.5.2 o s).truths
+    let log : take i c.loop-i.log ≡ c.loop-i.log = take_all i c.loop-i.log (omega (arith, c.loop-i.auto.log, c.requires.long, c.loop-i-test.false)) in
+    day_true K choice k nw ns o _ (model c.loop-i.block) c.loop-i.policy c.loop-i.held inv.so_far.0 ((λ j. day_on K choice k nw ns start (sym orders j) (sym log j)) ∙ inv.so_far.1) (inv.so_far.2 o s).truths

@@ -12,14 +12,9 @@ returns-in-None g c =
     let k = g.C.Rows.matrix c.args.code.now in
     let m = model c.args.block.now in
     let m' = model c.solve.new.self in
-    record {
-      lent = c.in-Ok.ensures.lent;
-      obeyed = subst (λ r. Obeyed K g.P.Policy.choice k (length c.args.words.now) (length c.args.sides.now) m m' c.args.policy.now c.solve.new.policy c.args.held (Some c.in-Ok.permit) Solve (Solved (Ok r)))
-          (sym c.report.ensures) (solved_with K g.P.Policy.choice k m m' _ _ _ _ _ _ c.in-Ok.permit c.args.held c.in-Ok.ensures.step c.in-Ok.ensures.history);
-    }
+    subst (λ r. Obeyed K g.P.Policy.choice k (length c.args.words.now) (length c.args.sides.now) m m' c.args.policy.now c.solve.new.policy c.args.held (Some c.in-Ok.permit) Solve (Solved (Ok r)))
+    (sym c.report.ensures) (solved_with K g.P.Policy.choice k m m' _ _ _ _ _ _ c.in-Ok.permit c.args.held c.in-Ok.ensures.step c.in-Ok.ensures.history)
 
 pub returns-in-Err : goal.returns-in-Err
-returns-in-Err g c = record {
-  lent = c.in-Err.ensures.lent;
-  obeyed = solved_without g.S.Symbol.kind g.P.Policy.choice _ _ _ _ _ _ _ _ _ _ _ c.in-Err.ensures.step c.in-Err.ensures.history;
-}
+returns-in-Err g c =
+    solved_without g.S.Symbol.kind g.P.Policy.choice _ _ _ _ _ _ _ _ _ _ _ c.in-Err.ensures.step c.in-Err.ensures.history
