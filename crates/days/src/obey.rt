@@ -1,5 +1,5 @@
 // Obeying one order on a block.
-ghost use Rattle.std.specs.Prelude.{ℕ, length, Some, None, Option};
+ghost use Rattle.std.specs.Prelude.{ℕ, length, Some, None};
 ghost use Rattle.codes.specs.Matrix.{Matrix};
 ghost use Rattle.method.specs.Method.{Choice};
 ghost use Rattle.receiver.specs.View.{model};
@@ -20,24 +20,6 @@ fn obey_show<S: Symbol, P>(block: &Block<'_, S>, permit: &Permit, place: u32) ->
         Ok(()) => Entry::Shown(Ok(symbol)),
         Err(fault) => Entry::Shown(Err(fault)),
     }
-}
-
-fn obey_receive<S: Symbol, P>(
-    block: &mut Block<'_, S>,
-    number: u32,
-    stamp: Stamp,
-    place: u32,
-    symbol: S,
-) -> Entry<S>
-    ensures { (choice : Matrix → Choice P) (k : Matrix) (ws ss : ℕ) (p : P) (q : Option Permit) → Obeyed S.Symbol.kind choice k ws ss (model block.old) (model block.new) p p q q (Order.Receive number stamp place symbol) result }
-{
-    Entry::Received(block.receive(number, stamp, place, symbol))
-}
-
-fn obey_renew<S: Symbol, P>(block: &mut Block<'_, S>, stamp: Stamp) -> Entry<S>
-    ensures { (choice : Matrix → Choice P) (k : Matrix) (ws ss : ℕ) (p : P) (q : Option Permit) → Obeyed S.Symbol.kind choice k ws ss (model block.old) (model block.new) p p q q (Order.Renew stamp) result }
-{
-    Entry::Renewed(block.renew(stamp))
 }
 
 // Closes the block under the permit in hand, which is the block's.
@@ -92,7 +74,7 @@ pub(crate) fn obey<S: Symbol, C: Code, P: Policy>(
             place,
             symbol,
         } => (
-            obey_receive::<S, P>(block, number, stamp, place, symbol),
+            Entry::Received(block.receive(number, stamp, place, symbol)),
             held,
         ),
         Order::Solve => obey_solve(block, held, code, policy, words, sides),
@@ -104,6 +86,6 @@ pub(crate) fn obey<S: Symbol, C: Code, P: Policy>(
             Some(permit) => (obey_close::<S, P>(block, permit), None),
             None => (Entry::NoPermit, None),
         },
-        Order::Renew { stamp } => (obey_renew::<S, P>(block, stamp), held),
+        Order::Renew { stamp } => (Entry::Renewed(block.renew(stamp)), held),
     }
 }
