@@ -1,5 +1,5 @@
 // Making one call on an opened block, and entering its answer.
-ghost use Rattle.std.specs.Prelude.{◌≡◌, ◌≤◌, true, false, ◌||◌, ltb, List, length, Some, None, Option, nat_lt};
+ghost use Rattle.std.specs.Prelude.{◌≡◌, ◌≤◌, false, ◌||◌, ltb, List, length, None, Option, nat_lt};
 ghost use Rattle.std.specs.Option.{option_map};
 ghost use Rattle.piles.specs.declared.pile.Pile.{Pile};
 ghost use Rattle.receiver.specs.declared.permit.Permit.{Permit};
@@ -24,18 +24,6 @@ pub(crate) struct Made<S> {
     pub(crate) other: Option<Permit>,
 }
 
-fn obey_receive<S: Carried>(
-    block: &mut Block<'_, S>,
-    number: u32,
-    stamp: Stamp,
-    place: u32,
-    symbol: S,
-) -> Entry<S>
-    ensures { (ps : List Pile) (memory : Memory) (q other : Option Permit) → Acted (setting S.Symbol.kind S.Carried.carriage ps memory) (model block.old) (model block.new) q q other (Order.Receive number stamp place symbol) result }
-{
-    Entry::Received(block.receive(number, stamp, place, symbol))
-}
-
 fn obey_packet<S: Carried>(block: &mut Block<'_, S>, stamp: Stamp, bytes: &Vec<u8>) -> Entry<S>
     ensures { (ps : List Pile) (memory : Memory) (q other : Option Permit) → Acted (setting S.Symbol.kind S.Carried.carriage ps memory) (model block.old) (model block.new) q q other (Order.Packet stamp bytes.now) result }
 {
@@ -52,24 +40,6 @@ fn obey_run<S: Carried>(block: &mut Block<'_, S>, stamp: Stamp, bytes: &Vec<u8>)
         Some(answer) => Entry::Ran(answer),
         None => Entry::NotCells,
     }
-}
-
-fn obey_renew<S: Carried>(block: &mut Block<'_, S>, stamp: Stamp) -> Entry<S>
-    ensures { (ps : List Pile) (memory : Memory) (q other : Option Permit) → Acted (setting S.Symbol.kind S.Carried.carriage ps memory) (model block.old) (model block.new) q q other (Order.Renew stamp) result }
-{
-    Entry::Renewed(block.renew(stamp))
-}
-
-fn obey_figure<S: Carried>(block: &Block<'_, S>) -> Entry<S>
-    ensures { (ps : List Pile) (memory : Memory) (q other : Option Permit) → Acted (setting S.Symbol.kind S.Carried.carriage ps memory) (model block.now) (model block.now) q q other Order.Figure result }
-{
-    Entry::Figured(block.figure())
-}
-
-fn obey_mark<S: Carried>(block: &Block<'_, S>, place: u32) -> Entry<S>
-    ensures { (ps : List Pile) (memory : Memory) (q other : Option Permit) → Acted (setting S.Symbol.kind S.Carried.carriage ps memory) (model block.now) (model block.now) q q other (Order.Mark place) result }
-{
-    Entry::Marked(block.mark(place))
 }
 
 // Shows a place under a permit.
@@ -135,10 +105,8 @@ fn obey_close<S: Carried>(block: &mut Block<'_, S>, held: Option<Permit>) -> Ent
 fn alike(held: &Option<Permit>, permit: &Permit) -> bool
     ensures { result ≡ numbers_alike held.now permit.now }
 {
-    match held {
-        Some(own) => own.number() == permit.number() && own.stamp() == permit.stamp(),
-        None => false,
-    }
+    held.as_ref().is_some_and(|own| own.number() == permit.number()
+        && own.stamp() == permit.stamp())
 }
 
 // Hands the other block's permit to close, which refuses it and gives it back.
@@ -197,18 +165,14 @@ fn front<T>(all: &mut [T], n: usize) -> &mut [T]
     requires { n ≤ length all.old }
     ensures { length result.now ≡ n }
 {
-    &mut all[0..n]
+    &mut all[..n]
 }
 
 // One of the session's codes, by its place.
 fn pile_at(codes: &[Pile], code: Option<usize>) -> Option<&Pile>
     ensures { option_map (λ x. x.now) result ≡ pile_at codes.now code }
 {
-    let i = code?;
-    if i >= codes.len() {
-        return None;
-    }
-    Some(&codes[i])
+    codes.get(code?)
 }
 
 // The entry of a solve, and the permit in hand after it; none is in hand where one was given.
@@ -272,19 +236,47 @@ pub(crate) fn obey<S: Carried>(
     ensures acted { is_open order.now ≡ false → Acted (setting S.Symbol.kind S.Carried.carriage codes.now (memory_of words.old sides.old)) (model block.old) (model block.new) held result.held other order.now result.entry }
     ensures other { result.other ≡ other }
 {
-    let entry = match order {
-        Order::Open { .. } => Entry::NoBlock,
+    match order {
+        Order::Open { .. } => Made {
+            entry: Entry::NoBlock,
+            held,
+            other,
+        },
         Order::Receive {
             number,
             stamp,
             place,
             symbol,
-        } => obey_receive(block, *number, *stamp, *place, *symbol),
-        Order::Packet { stamp, bytes } => obey_packet(block, *stamp, bytes),
-        Order::Run { stamp, bytes } => obey_run(block, *stamp, bytes),
-        Order::Renew { stamp } => obey_renew(block, *stamp),
-        Order::Figure => obey_figure(block),
-        Order::Mark { place } => obey_mark(block, *place),
+        } => Made {
+            entry: Entry::Received(block.receive(*number, *stamp, *place, *symbol)),
+            held,
+            other,
+        },
+        Order::Packet { stamp, bytes } => Made {
+            entry: obey_packet(block, *stamp, bytes),
+            held,
+            other,
+        },
+        Order::Run { stamp, bytes } => Made {
+            entry: obey_run(block, *stamp, bytes),
+            held,
+            other,
+        },
+        Order::Renew { stamp } => Made {
+            entry: Entry::Renewed(block.renew(*stamp)),
+            held,
+            other,
+        },
+        Order::Figure => Made {
+            entry: Entry::Figured(block.figure()),
+            held,
+            other,
+        },
+        Order::Mark { place } => Made {
+            entry: Entry::Marked(block.mark(*place)),
+            held,
+            other,
+        },
         Order::Solve {
             code,
             policy,
@@ -302,19 +294,14 @@ pub(crate) fn obey<S: Carried>(
                 *asked_words,
                 *symbols,
             );
-            return Made { entry, held, other };
+            Made { entry, held, other }
         }
-        Order::Show { place, hand } => return obey_show(block, held, other, *place, *hand),
-        Order::Close { hand } => {
-            return match *hand {
-                Hand::Own => Made {
-                    entry: obey_close(block, held),
-                    held: None,
-                    other,
-                },
-                Hand::Other => obey_close_other(block, held, other),
-            };
-        }
-    };
-    Made { entry, held, other }
+        Order::Show { place, hand } => obey_show(block, held, other, *place, *hand),
+        Order::Close { hand: Hand::Own } => Made {
+            entry: obey_close(block, held),
+            held: None,
+            other,
+        },
+        Order::Close { hand: Hand::Other } => obey_close_other(block, held, other),
+    }
 }

@@ -18,21 +18,11 @@ impl Policy for Named {
 
     fn name<C: Code>(&mut self, code: &C, active: &Columns, unused: &Columns) -> Option<usize> {
         match self.name {
-            PolicyName::First => {
-                let mut policy = First;
-                policy.name(code, active, unused)
-            }
-            PolicyName::Heaviest => {
-                let mut policy = Heaviest;
-                policy.name(code, active, unused)
-            }
-            PolicyName::ComponentFirst => {
-                let mut policy = Component { below: First };
-                policy.name(code, active, unused)
-            }
+            PolicyName::First => First.name(code, active, unused),
+            PolicyName::Heaviest => Heaviest.name(code, active, unused),
+            PolicyName::ComponentFirst => Component { below: First }.name(code, active, unused),
             PolicyName::ComponentHeaviest => {
-                let mut policy = Component { below: Heaviest };
-                policy.name(code, active, unused)
+                Component { below: Heaviest }.name(code, active, unused)
             }
         }
     }

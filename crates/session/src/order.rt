@@ -4,7 +4,7 @@ use receiver::{Fault, Layer, Stamp, Stopped, Unsolved};
 use search::Report;
 
 // Whose permit a call is made under: the one in the block's own hand, or the one in the other block's.
-#[derive(Clone, Copy)]
+#[derive(Clone, Copy, PartialEq, Eq, Debug)]
 pub enum Hand {
     Own,
     Other,
@@ -55,7 +55,7 @@ pub enum Order<S> {
     },
 }
 
-#[derive(Clone, Copy)]
+#[derive(Clone, Copy, PartialEq, Eq, Debug)]
 pub enum Entry<S> {
     Opened(Result<(), Fault>),
     Received(Result<(), Fault>),
@@ -82,7 +82,7 @@ pub enum Entry<S> {
 }
 
 // Which of the two blocks of a session a call goes to.
-#[derive(Clone, Copy)]
+#[derive(Clone, Copy, PartialEq, Eq, Debug)]
 pub enum Which {
     First,
     Second,

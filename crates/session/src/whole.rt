@@ -1,5 +1,5 @@
 // A whole session: one call after another on two blocks.
-ghost use Rattle.std.specs.Prelude.{◌≡◌, ◌<◌, List, [], length, replicate, is_some, Option, slice_set};
+ghost use Rattle.std.specs.Prelude.{◌≡◌, List, [], length, replicate, is_some, Option};
 ghost use Rattle.std.specs.Option.{option_map};
 ghost use Rattle.receiver.specs.Blocks.{opened};
 ghost use Rattle.receiver.specs.History.{Event, Opened};
@@ -17,14 +17,14 @@ use receiver::{Block, Permit, Stamp, open_fault};
 use symbols::Symbol;
 
 // Whether each block's permit was left in its hand at the end of a session.
-#[derive(Clone, Copy)]
+#[derive(Clone, Copy, PartialEq, Eq, Debug)]
 pub struct Left {
     pub first: bool,
     pub second: bool,
 }
 
 // The log is not as long as the calls; its length.
-#[derive(Clone, Copy)]
+#[derive(Clone, Copy, PartialEq, Eq, Debug)]
 pub struct LogLength(pub usize);
 
 // Cuts a table of n places off the session's tables, or none where fewer are left.
@@ -126,14 +126,6 @@ fn end<S: Carried>(block: &mut Block<'_, S>, held: Option<Permit>) -> bool
         },
         None => false,
     }
-}
-
-// Enters an answer in the log.
-fn enter<S: Carried>(log: &mut [Entry<S>], i: usize, entry: Entry<S>)
-    requires { i < length log.old }
-    ensures { log.new ≡ slice_set log.old i entry }
-{
-    log[i] = entry;
 }
 
 // The permits in the hands of the two blocks.
@@ -239,7 +231,7 @@ fn serve<'a, S: Carried>(
         first: None,
         second: None,
     };
-    for i in 0..calls.len() {
+    for (i, call) in calls.iter().enumerate() {
         let (entry, next) = turn(
             first,
             second,
@@ -249,10 +241,10 @@ fn serve<'a, S: Carried>(
             codes,
             words,
             sides,
-            &calls[i],
+            call,
         );
         hands = next;
-        enter(log, i, entry);
+        log[i] = entry;
     }
     let Hands {
         first: held,

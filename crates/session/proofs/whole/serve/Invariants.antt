@@ -1,4 +1,4 @@
-use Rattle.std.proofs.Common.{◌≡◌, length, take}
+use Rattle.std.proofs.Common.{length, take}
 use Rattle.receiver.specs.View.{model}
 use Rattle.session.specs.Obeying.{setting}
 use Rattle.session.specs.Sessions.{Going}
@@ -7,7 +7,4 @@ use Rattle.session.proofs.whole.serve.Given as goal
 
 abbrev pub invariant-loop-i : goal.invariant-loop-i
 invariant-loop-i g l =
-    (length l.log ≡ length l.calls)
-    × (length l.words ≡ length l.initial.words)
-    × (length l.sides ≡ length l.initial.sides)
-    × Going (setting g.S.Symbol.kind g.S.Carried.carriage l.codes (memory_of l.initial.words l.initial.sides)) (length l.initial.tables) (take l.i l.calls) (take l.i l.log) l.begun (model l.first) (model l.second) l.hands (length l.tables)
+    Going (setting g.S.Symbol.kind g.S.Carried.carriage l.codes (memory_of l.initial.words l.initial.sides)) (length l.initial.tables) (take l.i l.calls) (take l.i l.log) l.begun (model l.first) (model l.second) l.hands (length l.tables)
