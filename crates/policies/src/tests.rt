@@ -52,6 +52,23 @@ fn sets_at_their_edges(rt: HostRuntime) {
 }
 
 #[test]
+fn members_rise(rt: HostRuntime) {
+    let set = of(300, &[130, 299, 0, 63]);
+    let mut members = set.iter();
+    assert_eq!(rt; members.next(), Some(0));
+    assert_eq!(rt; members.next(), Some(63));
+    assert_eq!(rt; members.next(), Some(130));
+    assert_eq!(rt; members.next(), Some(299));
+    assert_eq!(rt; members.next(), None);
+    assert_eq!(rt; members.next(), None);
+    let mut last = 0;
+    for c in &set {
+        last = c;
+    }
+    assert_eq!(rt; last, 299);
+}
+
+#[test]
 fn weights_of_unused_rows(rt: HostRuntime) -> Result<(), Fail> {
     let records = [
         one(0, 0),

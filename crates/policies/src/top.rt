@@ -42,10 +42,8 @@ pub(crate) fn top(weights: &Numbers, active: &Columns) -> Option<usize>
     ensures { result ≡ top (at weights.now) (shown active.now) }
 {
     let mut best = None;
-    for c in 0..active.width {
-        if active.has(c) {
-            best = better(weights, best, c);
-        }
+    for c in active {
+        best = better(weights, best, c);
     }
     best
 }
