@@ -10,7 +10,8 @@ use Rattle.method.specs.Sets.{has, kept_if, marked}
 use Rattle.method.specs.Choices.{pair_of, with_pair, joins, merged, label, labels}
 use Rattle.method.proofs.Marks.{has_below}
 use Rattle.policies.specs.Numbers.{at}
-use Rattle.policies.specs.Forests.{Forest, joined, Drawn}
+use Rattle.policies.specs.Forests.{Labelled, joined}
+use Rattle.policies.specs.Drawings.{some_of}
 use Rattle.policies.proofs.Trees.{turned, unturned}
 use Rattle.policies.proofs.Walks.{some_none}
 
@@ -56,7 +57,7 @@ label_more n es x y lx ly c =
     ∙ sym (ap (merged p q) (get_or_past ls c c l) ∙ merged_miss p q c (omega (arith, length_labels n es, label_low n es x, label_low n es y))))
     (cases_lt c (length ls))
 
-forest_like : (up : List ℕ) (f g : ℕ → ℕ) → ((c : ℕ) → g c ≡ f c) → Forest up f → Forest up g
+forest_like : (up : List ℕ) (f g : ℕ → ℕ) → ((c : ℕ) → g c ≡ f c) → Labelled up f → Labelled up g
 forest_like up f g e h = record { falling = h.falling; keeps = λ c l. e (at up c) ∙ h.keeps c l ∙ sym (e c); root = λ c l o. e c ∙ h.root c l o }
 
 -- the columns of a pair are active
@@ -86,25 +87,29 @@ joins_more : (k : Matrix) (a u : List Bool) (r : ℕ) (b : Bool) (o : Option (�
 joins_more k a u r b o e f =
     ap (λ t. with_pair b t (joins k a u r)) f ∙ ap (λ t. with_pair t (pair_of (marked a (row_at k r))) (joins k a u r)) e ∙ sym (ap (joins k a u) (add-one r))
 
--- what is drawn of one row more
-module _ (k : Matrix) (a u : List Bool) (r : ℕ) (any : Bool) (up : List ℕ) (h : Drawn (length a) (joins k a u r) any up) where
-  pub drawn_idle : false ≡ has u r → Drawn (length a) (joins k a u (r + 1)) any up
-  drawn_idle e = subst (λ es. Drawn (length a) es any up) (joins_more k a u r false _ e refl) h
+-- what is drawn of some rows, and of one row more
+pub record Drawing (n : ℕ) (es : List (ℕ × ℕ)) (any : Bool) (up : List ℕ) : Type 0 where
+  pub tells : any ≡ some_of es
+  pub forest : Labelled up (label (labels n es))
 
-  pub drawn_other : true ≡ has u r → None ≡ pair_of (marked a (row_at k r)) → Drawn (length a) (joins k a u (r + 1)) any up
-  drawn_other e f = subst (λ es. Drawn (length a) es any up) (joins_more k a u r true None e f) h
+module _ (k : Matrix) (a u : List Bool) (r : ℕ) (any : Bool) (up : List ℕ) (h : Drawing (length a) (joins k a u r) any up) where
+  pub drawn_idle : false ≡ has u r → Drawing (length a) (joins k a u (r + 1)) any up
+  drawn_idle e = subst (λ es. Drawing (length a) es any up) (joins_more k a u r false _ e refl) h
+
+  pub drawn_other : true ≡ has u r → None ≡ pair_of (marked a (row_at k r)) → Drawing (length a) (joins k a u (r + 1)) any up
+  drawn_other e f = subst (λ es. Drawing (length a) es any up) (joins_more k a u r true None e f) h
 
   pub drawn_pair : (x y : ℕ) (next : List ℕ) → true ≡ has u r → Some (x, y) ≡ pair_of (marked a (row_at k r))
-      → ((f : ℕ → ℕ) → Forest up f → Forest next (joined f x y)) → Drawn (length a) (joins k a u (r + 1)) true next
+      → ((f : ℕ → ℕ) → Labelled up f → Labelled next (joined f x y)) → Drawing (length a) (joins k a u (r + 1)) true next
   drawn_pair x y next e f j =
       let l = pair_below k a r x y f in
       let n : ℕ = length a in
       let es : List (ℕ × ℕ) = joins k a u r in
-      let d : Drawn (length a) ((x, y) ∷ joins k a u r) true next = record {
+      let d : Drawing (length a) ((x, y) ∷ joins k a u r) true next = record {
         tells = refl;
         forest = forest_like next (joined (label (labels n es)) x y) (label (labels n ((x, y) ∷ es))) (label_more n es x y l.0 l.1) (j (label (labels n es)) h.forest);
       } in
-      subst (λ es. Drawn (length a) es true next) (joins_more k a u r true (Some (x, y)) e f) d
+      subst (λ es. Drawing (length a) es true next) (joins_more k a u r true (Some (x, y)) e f) d
 
-pub drawn_start : (n : ℕ) (up : List ℕ) → Forest up (λ c. c) → Drawn n [] false up
+pub drawn_start : (n : ℕ) (up : List ℕ) → Labelled up (λ c. c) → Drawing n [] false up
 drawn_start n up h = record { tells = refl; forest = forest_like up (λ c. c) (label (labels n [])) (label_start n) h }

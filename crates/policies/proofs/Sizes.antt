@@ -6,7 +6,8 @@ use Rattle.method.specs.Sets.{has, bump}
 use Rattle.method.specs.Choices.{count_to, top, label, labels, in_set, size_of, largest_of}
 use Rattle.method.proofs.Counts.{num}
 use Rattle.policies.specs.Numbers.{at}
-use Rattle.policies.specs.Forests.{Falling, Forest, some_of}
+use Rattle.policies.specs.Forests.{Falling, Labelled}
+use Rattle.policies.specs.Drawings.{some_of}
 use Rattle.policies.proofs.Marks.{get_or_zeros}
 use Rattle.policies.proofs.Tops.{top_same}
 use Rattle.policies.proofs.Trees.{at_pointed, at_others, pointed_falls}
@@ -18,8 +19,8 @@ pub record Sized (a : List Bool) (before up sizes : List ℕ) (c : ℕ) : Type 0
   pub long : length sizes ≡ 512
   pub few : (l : ℕ) → at sizes l ≤ c
   pub ahead : (d : ℕ) → c ≤ d → at up d ≡ at before d
-  pub done : (f : ℕ → ℕ) → Forest before f → (d : ℕ) → d < c → at up d ≡ f d
-  pub counts : (f : ℕ → ℕ) → Forest before f → (l : ℕ) → l < 512 → at sizes l ≡ count_to (in_set a f l) c
+  pub done : (f : ℕ → ℕ) → Labelled before f → (d : ℕ) → d < c → at up d ≡ f d
+  pub counts : (f : ℕ → ℕ) → Labelled before f → (l : ℕ) → l < 512 → at sizes l ≡ count_to (in_set a f l) c
 
 -- one column more
 module _ (a : List Bool) (before up s : List ℕ) (c r : ℕ) (inside : c < 512) (h : Sized a before up s c) (is : r ≡ at up (at up c)) where
@@ -29,7 +30,7 @@ module _ (a : List Bool) (before up s : List ℕ) (c r : ℕ) (inside : c < 512)
   pub root_low : r ≤ c
   root_low = omega (arith, is, step_low, h.falling.falls (at up c) (omega (arith, step_low)))
 
-  root_is : (f : ℕ → ℕ) → Forest before f → r ≡ f c
+  root_is : (f : ℕ → ℕ) → Labelled before f → r ≡ f c
   root_is f w =
       let same : at up c ≡ at before c = h.ahead c (omega arith) in
       is ∙ ⊎_elim (λ (l : at up c < c). h.done f w (at up c) l ∙ ap f same ∙ w.keeps c inside)
@@ -51,7 +52,7 @@ module _ (a : List Bool) (before up s : List ℕ) (c r : ℕ) (inside : c < 512)
           ∙ count_more (in_set a f l) c;
     }
       where
-        go : (f : ℕ → ℕ) → Forest before f → (d : ℕ) → d < c + 1 → (d ≡ c) ⊎ (d ≡ c → ⊥) → at (set up c r) d ≡ f d
+        go : (f : ℕ → ℕ) → Labelled before f → (d : ℕ) → d < c + 1 → (d ≡ c) ⊎ (d ≡ c → ⊥) → at (set up c r) d ≡ f d
         go f w d l (inl e) = ap (at (set up c r)) e ∙ at_pointed up c r root_low inside h.falling ∙ root_is f w ∙ ap f (sym e)
         go f w d l (inr n) = at_others up c r root_low inside h.falling d n ∙ h.done f w d (omega arith)
 

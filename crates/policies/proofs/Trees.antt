@@ -3,7 +3,7 @@ use Rattle.std.proofs.Common.{◌≡◌, ℕ, ◌<◌, ◌≤◌, min, max, cond
 use Rattle.std.proofs.lemmas.Bool.{cases_lt, cases_eq, eq-eqb, ne_eqb}
 use Rattle.method.specs.Choices.{merged}
 use Rattle.policies.specs.Numbers.{at}
-use Rattle.policies.specs.Forests.{Falling, Forest, joined, Kept, Root}
+use Rattle.policies.specs.Forests.{Falling, Labelled, joined, Kept, Root}
 
 -- what holds of two numbers holds of the lower and of the higher
 pub for_min : (P : ℕ → Type 0) (p q : ℕ) → P p → P q → P (min p q)
@@ -37,7 +37,7 @@ module _ (up : List ℕ) (c r : ℕ) (low : r ≤ c) (inside : c < 512) (w : Fal
       go d l (inr n) = rw (at_others d n) (w.falls d l)
 
 -- one root pointed at another: the higher label becomes the lower
-module _ (up : List ℕ) (hi lo : ℕ) (low : lo ≤ hi) (inside : hi < 512) (f : ℕ → ℕ) (ok : Forest up f) (own_hi : at up hi ≡ hi) (own_lo : at up lo ≡ lo) where
+module _ (up : List ℕ) (hi lo : ℕ) (low : lo ≤ hi) (inside : hi < 512) (f : ℕ → ℕ) (ok : Labelled up f) (own_hi : at up hi ≡ hi) (own_lo : at up lo ≡ lo) where
   abbrev g : ℕ → ℕ
   g c = cond (eqb (f c) hi) lo (f c)
 
@@ -60,7 +60,7 @@ module _ (up : List ℕ) (hi lo : ℕ) (low : lo ≤ hi) (inside : hi < 512) (f 
       let same : f c ≡ c = ok.root c l (sym (at_others up hi lo low inside ok.falling c n) ∙ e) in
       unturned hi lo (f c) (λ q. n (sym same ∙ q)) ∙ same
 
-  pub grafted : Forest (set up hi lo) (λ c. cond (eqb (f c) hi) lo (f c))
+  pub grafted : Labelled (set up hi lo) (λ c. cond (eqb (f c) hi) lo (f c))
   grafted = record {
     falling = pointed_falls up hi lo low inside ok.falling;
     keeps = λ c l. keep c l (cases_eq c hi);
@@ -78,7 +78,7 @@ module _ (up : List ℕ) (c : ℕ) (inside : c < 512) (ok : Falling up) (not_roo
   low : r ≤ c
   low = omega (arith, above_low)
 
-  module _ (f : ℕ → ℕ) (w : Forest up f) where
+  module _ (f : ℕ → ℕ) (w : Labelled up f) where
     keep_above : (d : ℕ) → d < 512 → (d ≡ c) ⊎ (d ≡ c → ⊥) → f (at (set up c r) d) ≡ f d
     keep_above d l (inl e) =
         ap (λ d. f (at (set up c r) d)) e ∙ ap f (at_pointed up c r low inside ok) ∙ w.keeps (at up c) (omega (arith, ok.falls c inside)) ∙ w.keeps c inside ∙ ap f (sym e)
@@ -106,17 +106,17 @@ pub kept_same : (x : List ℕ) → Falling x → Kept x x
 kept_same x h = record { falling = h; stay = λ c e. e; still = λ f w. w }
 
 -- the root of a set is its label
-root_label : (before up : List ℕ) (c r : ℕ) (f : ℕ → ℕ) → c < 512 → Root before up c r → Forest before f → r ≡ f c
+root_label : (before up : List ℕ) (c r : ℕ) (f : ℕ → ℕ) → c < 512 → Root before up c r → Labelled before f → r ≡ f c
 root_label before up c r f l h w = sym ((h.kept.still f w).root r (omega (arith, h.low)) h.own) ∙ h.same f w
 
 -- the sets of x and y joined, by their roots
 pub roots_joined : (before mid up : List ℕ) (x y p q : ℕ) → x < 512 → y < 512 → Root before mid x p → Root mid up y q
-    → (f : ℕ → ℕ) → Forest before f → Forest (set up (max p q) (min p q)) (joined f x y)
+    → (f : ℕ → ℕ) → Labelled before f → Labelled (set up (max p q) (min p q)) (joined f x y)
 roots_joined before mid up x y p q lx ly rp rq f ok =
     let own_p : at up p ≡ p = rq.kept.stay p rp.own in
     let t : List ℕ = set up (max p q) (min p q) in
     let inside : max p q < 512 = omega (arith, rp.low, rq.low) in
-    subst (λ (l : ℕ). Forest t (λ c. merged l (f y) (f c))) (root_label before mid x p f lx rp ok)
-    (subst (λ (l : ℕ). Forest t (λ c. merged p l (f c))) (root_label mid up y q f ly rq (rp.kept.still f ok))
+    subst (λ (l : ℕ). Labelled t (λ c. merged l (f y) (f c))) (root_label before mid x p f lx rp ok)
+    (subst (λ (l : ℕ). Labelled t (λ c. merged p l (f c))) (root_label mid up y q f ly rq (rp.kept.still f ok))
     (grafted up (max p q) (min p q) (omega arith) inside f (rq.kept.still f (rp.kept.still f ok))
     (for_max (λ c. at up c ≡ c) p q own_p rq.own) (for_min (λ c. at up c ≡ c) p q own_p rq.own)))

@@ -1,22 +1,20 @@
 -- Sets of columns as a forest in an array: each column points at itself or at a lower one of its set.
 --
 --   Falling       each column points at itself or below
---   Forest        the array stands for a labelling: a column points into its own set, and one that points at itself is the label
+--   Labelled      the array stands for a labelling: a column points into its own set, and one that points at itself is the label
 --   joined        the labelling in which the sets of x and y are one, under the lower label
 --   Lifted        column c is pointed at what stands two steps above it, which is r
 --   Kept          the array stands for what it stood for, and what was a root still is
 --   Root          r is the root of c's set
---   some_of       whether a list has an element
---   Drawn         the array stands for the labels that the pairs give to the columns below n, and any tells whether there is a pair
-use Rattle.std.specs.Prelude.{◌≡◌, ℕ, ◌<◌, ◌≤◌, Bool, true, false, List, [], ◌∷◌, length, slice_set}
-use Rattle.method.specs.Choices.{merged, label, labels}
+use Rattle.std.specs.Prelude.{◌≡◌, ℕ, ◌<◌, ◌≤◌, List, length, slice_set}
+use Rattle.method.specs.Choices.{merged}
 use Rattle.policies.specs.Numbers.{at}
 
 pub record Falling (up : List ℕ) : Type 0 where
   pub long : length up ≡ 512
   pub falls : (c : ℕ) → c < 512 → at up c ≤ c
 
-pub record Forest (up : List ℕ) (f : ℕ → ℕ) : Type 0 where
+pub record Labelled (up : List ℕ) (f : ℕ → ℕ) : Type 0 where
   pub falling : Falling up
   pub keeps : (c : ℕ) → c < 512 → f (at up c) ≡ f c
   pub root : (c : ℕ) → c < 512 → at up c ≡ c → f c ≡ c
@@ -31,18 +29,10 @@ pub record Lifted (before up : List ℕ) (c r : ℕ) : Type 0 where
 pub record Kept (before up : List ℕ) : Type 0 where
   pub falling : Falling up
   pub stay : (c : ℕ) → at before c ≡ c → at up c ≡ c
-  pub still : (f : ℕ → ℕ) → Forest before f → Forest up f
+  pub still : (f : ℕ → ℕ) → Labelled before f → Labelled up f
 
 pub record Root (before up : List ℕ) (c r : ℕ) : Type 0 where
   pub low : r ≤ c
   pub own : at up r ≡ r
   pub kept : Kept before up
-  pub same : (f : ℕ → ℕ) → Forest before f → f r ≡ f c
-
-abbrev pub some_of : {X : Type 0} → List X → Bool
-some_of [] = false
-some_of (x ∷ xs) = true
-
-pub record Drawn (n : ℕ) (es : List (ℕ × ℕ)) (any : Bool) (up : List ℕ) : Type 0 where
-  pub tells : any ≡ some_of es
-  pub forest : Forest up (label (labels n es))
+  pub same : (f : ℕ → ℕ) → Labelled before f → f r ≡ f c

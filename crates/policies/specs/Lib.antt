@@ -2,5 +2,6 @@ pub mod Shown
 pub mod Numbers
 pub mod Scans
 pub mod Forests
+pub mod Drawings
 pub mod Layered
 pub mod Relations

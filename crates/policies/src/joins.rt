@@ -2,40 +2,36 @@
 ghost use Rattle.std.specs.Prelude.{◌≡◌, length};
 ghost use Rattle.codes.specs.Matrix.{height};
 ghost use Rattle.method.specs.Choices.{joins, largest};
-ghost use Rattle.policies.specs.Forests.{Forest, Drawn};
+ghost use Rattle.policies.specs.Drawings.{Drawn};
 ghost use Rattle.policies.specs.Shown.{shown};
 
 use crate::columns::Columns;
-use crate::forest::{alone, join, sizes};
+use crate::forest::Forest;
 use crate::pairs::pair_of;
-use crate::top::{Numbers, top};
+use crate::top::top;
 use codes::Code;
 
-// Joins what rows join, and tells whether there is such a row: each row is read once.
-fn draw<C: Code>(code: &C, active: &Columns, unused: &Columns, up: &mut Numbers) -> bool
-    requires { Forest up.old (λ c. c) }
-    ensures { Drawn (length (shown active.now)) (joins (C.Rows.matrix code.now) (shown active.now) (shown unused.now) (height (C.Rows.matrix code.now))) result up.new }
+// The sets that rows join, where there is such a row: each row is read once.
+fn draw<C: Code>(code: &C, active: &Columns, unused: &Columns) -> Option<Forest>
+    ensures { Drawn (length (shown active.now)) (joins (C.Rows.matrix code.now) (shown active.now) (shown unused.now) (height (C.Rows.matrix code.now))) result }
 {
+    let mut forest = Forest::alone();
     let mut any = false;
     for r in 0..code.shape().rows {
         if unused.has(r) {
             if let Some((x, y)) = pair_of(code, active, r) {
-                join(up, x, y);
+                forest.join(x, y);
                 any = true;
             }
         }
     }
-    any
+    any.then_some(forest)
 }
 
 // The lowest column of the largest set; none where no row joins two columns.
 pub(crate) fn largest_joined<C: Code>(code: &C, active: &Columns, unused: &Columns) -> Option<usize>
     ensures { result ≡ largest (C.Rows.matrix code.now) (shown active.now) (shown unused.now) }
 {
-    let mut up = alone();
-    if draw(code, active, unused, &mut up) {
-        top(&sizes(&mut up, active), active)
-    } else {
-        None
-    }
+    let mut forest = draw(code, active, unused)?;
+    top(&forest.sizes(active), active)
 }

@@ -3,17 +3,17 @@ use Rattle.method.specs.Choices.{count_to, in_set}
 use Rattle.policies.specs.Shown.{shown}
 use Rattle.policies.proofs.Marks.{length_shown}
 use Rattle.policies.proofs.Sizes.{Sized, sized_start, sized_idle, sized_hit}
-use Rattle.policies.proofs.forest.sizes.Goals as goal
-use Rattle.policies.proofs.forest.sizes.Goals.{then-has, else-has}
+use Rattle.policies.proofs.forest.Forest.sizes.Goals as goal
+use Rattle.policies.proofs.forest.Forest.sizes.Goals.{then-has, else-has}
 
 pub loop-c-init : goal.loop-c-init
-loop-c-init c = sized_start 512 (shown c.args.active.now) c.args.up.now refl c.requires
+loop-c-init c = sized_start 512 (shown c.args.active.now) c.args.self.now.up refl c.args.self.now.falling
 
 pub loop-c-preserved : goal.loop-c-preserved
 loop-c-preserved c =
     let a = shown c.args.active.now in
-    let before = c.args.up.now in
-    let up = c.loop-c.up in
+    let before = c.args.self.now.up in
+    let up = c.loop-c.self.up in
     let k = c.loop-c.c in
     let r = c.lift-root.result in
     let above = c.lift-root.ensures.two_above in

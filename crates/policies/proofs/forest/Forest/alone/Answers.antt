@@ -1,6 +1,6 @@
 use Rattle.std.proofs.Common.{◌≡◌, set, ◌∙◌, arith, length-set, get_or-set_other, get_or-set_same, below_more}
 use Rattle.policies.specs.Numbers.{at}
-use Rattle.policies.proofs.forest.alone.Goals as goal
+use Rattle.policies.proofs.forest.Forest.alone.Goals as goal
 
 pub loop-c-preserved : goal.loop-c-preserved
 loop-c-preserved c =

@@ -1,6 +1,0 @@
-use Rattle.policies.specs.Shown.{shown}
-use Rattle.policies.proofs.Sizes.{Sized}
-use Rattle.policies.proofs.forest.sizes.Given as goal
-
-abbrev pub invariant-loop-c : goal.invariant-loop-c
-invariant-loop-c l = Sized (shown l.active) l.initial.up l.up l.sizes l.c
