@@ -1,32 +1,30 @@
 -- The state at the end of a search, and what is told of it.
 use Rattle.std.proofs.Common.{◌≡◌, ℕ, ◌*◌, ◌<◌, ◌≤◌, Bool, true, false, List, [], ◌∷◌, length, get_or, replicate, is_some, Some, None, Ok, Err, Option, sym, refl, ap, ◌∙◌, ap₂, true≢false, arith}
 use mathlib.Core.Bool.{false≢true}
-use Rattle.std.proofs.lemmas.List.{length-take-le}
 use Rattle.symbols.specs.Kinds.{Kind}
 use Rattle.codes.specs.Matrix.{Matrix, height}
 use Rattle.method.specs.Sets.{lowest}
 use Rattle.method.specs.Method.{Choice, start, steps, final, answer, answer_at, method, clash, filled, row_for}
 use Rattle.search.specs.declared.answer.Unfound.TheVariants.{NoCodeword, Several}
 use Rattle.search.specs.declared.found.Found.{Found}
-use Rattle.search.specs.declared.trail.Trail.{Trail}
-use Rattle.search.specs.declared.work.Work.{Work}
+use Rattle.search.specs.declared.elimination.Elimination.{Elimination}
 use Rattle.search.specs.Answers.{report_of, told}
 use Rattle.search.specs.Found.{wiped}
 use Rattle.search.specs.Places.{Placed}
 use Rattle.search.specs.Searches.{marks_in, outcome, end, Run}
-use Rattle.search.specs.Steps.{settled, Bounded}
-use Rattle.search.specs.View.{listed, lines, view, bare, with_policy}
+use Rattle.search.specs.Steps.{settled}
+use Rattle.search.specs.View.{rows_of, view, bare, with_policy}
 use Rattle.search.proofs.Placing.{place_right, place_within}
 use Rattle.search.proofs.Wiped.{wiped_whole}
 
 -- started, peeled and settled: the method's last state
 pub ended : {S P : Type 0} (K : Kind S) (choice : Matrix → Choice P) (k : Matrix) (received : List Bool) (syms : List S) (p p' : P)
-    (ws ws' : List ℕ) (ss ss' : List S) (w w' : Work)
-    → bare K ws ss w ≡ start K k (marks_in k received) syms tt
-    → view K ws' ss' w' p' ≡ settled K (steps K (choice k) k.width (view K ws ss w p))
-    → view K ws' ss' w' p' ≡ end K choice k received syms p
+    (e e' : Elimination S)
+    → bare K e ≡ start K k (marks_in k received) syms tt
+    → view K e' p' ≡ settled K (steps K (choice k) k.width (view K e p))
+    → view K e' p' ≡ end K choice k received syms p
 unfolding final
-ended K choice k received syms p p' ws ws' ss ss' w w' begun run = run ∙ ap (λ s. settled K (steps K (choice k) k.width s)) (ap (with_policy p) begun)
+ended K choice k received syms p p' e e' begun run = run ∙ ap (λ s. settled K (steps K (choice k) k.width s)) (ap (with_policy p) begun)
 
 told_clash : {S : Type 0} (o : Option ℕ) (p a : ℕ) (fs : List ℕ) (w : List S) → true ≡ is_some o → told (answer_at o p a fs w) ≡ Err (NoCodeword (report_of p a))
 told_clash None p a fs w e = absurd (true≢false e)
@@ -42,77 +40,49 @@ told_one None p a [] w e h = refl
 told_one None p a (f ∷ fs) w e h = absurd (omega arith)
 told_one (Some r) p a fs w e h = absurd (false≢true e)
 
-length_listed : (t : Trail) → t.len ≤ 512 → length (listed t) ≡ t.len
-length_listed t l = length-take-le t.len t.columns (omega (arith, t.room))
-
+-- what a search in memory of just the size of the code has done, of an elimination to the end and the memory left after it
 module _ {S P : Type 0} (K : Kind S) (choice : Matrix → Choice P) (k : Matrix) (received : List Bool) (syms : List S) (p p' : P)
-    (ws : List ℕ) (ss : List S) (w : Work) (is : view K ws ss w p' ≡ end K choice k received syms p) (few : Bounded w) where
-  answers : told (answer K k (marks_in k received) syms (view K ws ss w p')) ≡ told (outcome K choice k received syms p)
+    (e : Elimination S) (is : view K e p' ≡ end K choice k received syms p) (high : length e.sides.now ≡ height k)
+    (j : ℕ) (pivots : j ≡ length e.pivots.items) (ws' : List ℕ) (words : ws' ≡ replicate (8 * height k) 0) where
+  answers : told (answer K k (marks_in k received) syms (view K e p')) ≡ told (outcome K choice k received syms p)
   unfolding method
   answers = ap (λ s. told (answer K k (marks_in k received) syms s)) is
 
-  pivots : length (listed w.pivots) ≡ w.pivots.len
-  pivots = length_listed w.pivots few.pivots
+  whole : List S
+  whole = filled K k.width (marks_in k received) syms (rows_of K e)
 
-  frees : length (listed w.free) ≡ w.free.len
-  frees = length_listed w.free few.free
+  cleared : (ss' : List S) → ss' ≡ wiped K.zero (length e.sides.now) e.sides.now → ss' ≡ replicate (height k) K.zero
+  cleared ss' z = z ∙ wiped_whole K.zero (length e.sides.now) e.sides.now refl ∙ ap (λ n. replicate n K.zero) high
 
-  pub none_told : true ≡ is_some (lowest (clash K) (lines K w.active.width ws ss w.uses))
-      → Err (NoCodeword (report_of w.pivots.len w.additions)) ≡ told (outcome K choice k received syms p)
-  unfolding answer
-  none_told e =
-      ap (λ j. Err (NoCodeword (report_of j w.additions))) (sym pivots)
-      ∙ sym (told_clash _ (length (listed w.pivots)) w.additions (listed w.free) (filled K k.width (marks_in k received) syms (lines K w.active.width ws ss w.uses)) e) ∙ answers
-
-  pub several_told : 0 < w.free.len → false ≡ is_some (lowest (clash K) (lines K w.active.width ws ss w.uses))
-      → Err (Several (report_of w.pivots.len w.additions) w.free.len) ≡ told (outcome K choice k received syms p)
-  unfolding answer
-  several_told some e =
-      ap₂ (λ j f. Err (Several (report_of j w.additions) f)) (sym pivots) (sym frees)
-      ∙ sym (told_free _ (length (listed w.pivots)) w.additions (listed w.free) (filled K k.width (marks_in k received) syms (lines K w.active.width ws ss w.uses)) e (omega (arith, frees))) ∙ answers
-
-  pub one_told : w.free.len ≤ 0 → false ≡ is_some (lowest (clash K) (lines K w.active.width ws ss w.uses))
-      → Ok (report_of w.pivots.len w.additions) ≡ told (outcome K choice k received syms p)
-  unfolding answer
-  one_told none e =
-      ap (λ j. Ok (report_of j w.additions)) (sym pivots)
-      ∙ sym (told_one _ (length (listed w.pivots)) w.additions (listed w.free) (filled K k.width (marks_in k received) syms (lines K w.active.width ws ss w.uses)) e (omega (arith, frees))) ∙ answers
-
--- what a search in memory of just the size of the code has done
-module _ {S P : Type 0} (K : Kind S) (choice : Matrix → Choice P) (k : Matrix) (received : List Bool) (syms : List S) (p p' : P)
-    (ws : List ℕ) (ss : List S) (w : Work) (is : view K ws ss w p' ≡ end K choice k received syms p) (few : Bounded w) (high : length ss ≡ height k)
-    (ws' : List ℕ) (m : ℕ) (wide : m ≡ 8 * height k) (words : ws' ≡ replicate m 0) where
-  zeros : ws' ≡ replicate (8 * height k) 0
-  zeros = words ∙ ap (λ j. replicate j 0) wide
-
-  cleared : (ss' : List S) → ss' ≡ wiped K.zero (length ss) ss → ss' ≡ replicate (height k) K.zero
-  cleared ss' e = e ∙ wiped_whole K.zero (length ss) ss refl ∙ ap (λ j. replicate j K.zero) high
-
-  pub run_none : true ≡ is_some (lowest (clash K) (lines K w.active.width ws ss w.uses)) → (ss' : List S) → ss' ≡ wiped K.zero (length ss) ss
-      → Run K choice k received syms p p' ws' ss' (Err (NoCodeword (report_of w.pivots.len w.additions)))
-  run_none e ss' z = record {
-    answer = none_told K choice k received syms p p' ws ss w is few e;
+  pub run_none : true ≡ is_some (lowest (clash K) (rows_of K e)) → (ss' : List S) → ss' ≡ wiped K.zero (length e.sides.now) e.sides.now
+      → Run K choice k received syms p p' ws' ss' (Err (NoCodeword (report_of j e.additions)))
+  unfolding answer whole
+  run_none clashes ss' z = record {
+    answer = ap (λ n. Err (NoCodeword (report_of n e.additions))) pivots ∙ sym (told_clash _ (length e.pivots.items) e.additions e.free.items whole clashes) ∙ answers;
     policy = ap (λ s. s.policy) is;
-    words = zeros;
+    words = words;
     sides = cleared ss' z;
   }
 
-  pub run_several : 0 < w.free.len → false ≡ is_some (lowest (clash K) (lines K w.active.width ws ss w.uses)) → (ss' : List S) → ss' ≡ wiped K.zero (length ss) ss
-      → Run K choice k received syms p p' ws' ss' (Err (Several (report_of w.pivots.len w.additions) w.free.len))
-  run_several some e ss' z = record {
-    answer = several_told K choice k received syms p p' ws ss w is few some e;
+  pub run_several : (f : ℕ) → f ≡ length e.free.items → 0 < f → false ≡ is_some (lowest (clash K) (rows_of K e)) → (ss' : List S) → ss' ≡ wiped K.zero (length e.sides.now) e.sides.now
+      → Run K choice k received syms p p' ws' ss' (Err (Several (report_of j e.additions) f))
+  unfolding answer whole
+  run_several f is_f some clashes ss' z = record {
+    answer = ap₂ (λ n l. Err (Several (report_of n e.additions) l)) pivots is_f ∙ sym (told_free _ (length e.pivots.items) e.additions e.free.items whole clashes (omega (arith, is_f))) ∙ answers;
     policy = ap (λ s. s.policy) is;
-    words = zeros;
+    words = words;
     sides = cleared ss' z;
   }
 
-  pub run_one : w.free.len ≤ 0 → false ≡ is_some (lowest (clash K) (lines K w.active.width ws ss w.uses)) → (f : Found)
-      → f.report ≡ report_of w.pivots.len w.additions → Placed w.uses 0 (length ss) f.rows → Run K choice k received syms p p' ws' ss (Ok f)
-  run_one none e f told_is placed = record {
-    answer = ap Ok told_is ∙ one_told K choice k received syms p p' ws ss w is few none e;
+  pub run_one : (l : ℕ) → l ≡ length e.free.items → l ≤ 0 → false ≡ is_some (lowest (clash K) (rows_of K e)) → (f : Found)
+      → f.report ≡ report_of j e.additions → Placed e.uses 0 (length e.sides.now) f.rows → Run K choice k received syms p p' ws' e.sides.now (Ok f)
+  unfolding answer whole
+  run_one l is_l none clashes f told_is placed = record {
+    answer = ap Ok (told_is ∙ ap (λ n. report_of n e.additions) pivots) ∙ sym (told_one _ (length e.pivots.items) e.additions e.free.items whole clashes (omega (arith, is_l))) ∙ answers;
     policy = ap (λ s. s.policy) is;
-    words = zeros;
-    sides = λ rest c l.
-        place_within K c ss rest w.uses (get_or f.rows c None) (placed.each c l) ∙ place_right K c w.active.width ws ss w.uses (get_or f.rows c None) (placed.each c l)
+    words = words;
+    sides = λ rest c h.
+        place_within K c e.sides.now rest e.uses (get_or f.rows c None) (placed.each c h)
+        ∙ place_right K c e.active.width e.words.now e.sides.now e.uses (get_or f.rows c None) (placed.each c h)
         ∙ ap (λ s. (row_for K c s.rows).right) is;
   }

@@ -1,5 +1,5 @@
 -- The rows that words and right sides stand for.
-use Rattle.std.proofs.Common.{◌≡◌, ℕ, zero, suc, ◌+◌, ◌<◌, ◌≤◌, Bool, true, false, not, ◌&&◌, ◌⊎◌, List, [], ◌∷◌, map, length, get_or, set, Some, Option, sym, refl, ap, ◌∙◌, ap₂, inl, inr, arith, length-set, get_or-set_other, get_or-set_same}
+use Rattle.std.proofs.Common.{◌≡◌, ℕ, zero, suc, ◌+◌, ◌<◌, Bool, true, false, not, ◌&&◌, ◌⊎◌, List, [], ◌∷◌, map, length, get_or, set, Some, Option, sym, refl, ap, ◌∙◌, ap₂, inl, inr, arith, length-set, get_or-set_other, get_or-set_same}
 use mathlib.Core.Bool.{and_comm}
 use lib.ListN.{length-map}
 use Rattle.std.specs.List.{range_with_len}
@@ -17,9 +17,9 @@ use Rattle.policies.specs.declared.columns.Columns.{Columns}
 use Rattle.policies.specs.Shown.{marks_of, shown}
 use Rattle.policies.proofs.Marks.{marks_at, length_shown}
 use Rattle.search.specs.declared.uses.Uses.{Uses}
-use Rattle.search.specs.declared.work.Work.{Work}
+use Rattle.search.specs.declared.elimination.Elimination.{Elimination}
 use Rattle.search.specs.Rows.{holding, Added}
-use Rattle.search.specs.View.{used_if, use_of, listed, line, lines, view}
+use Rattle.search.specs.View.{used_if, use_of, line, lines, rows_of, bare}
 
 differ_is : (a b : Bool) → differ a b ≡ differs a b
 differ_is true b = refl
@@ -174,31 +174,53 @@ module _ {S : Type 0} (K : Kind S) (n r c : ℕ) (ws ws' : List ℕ) (ss ss' : L
 pub same_width : (s s' : Columns) (c : ℕ) (b : Bool) → shown s' ≡ set (shown s) c b → s'.width ≡ s.width
 same_width s s' c b e = sym (length_shown s') ∙ ap length e ∙ length-set (shown s) c b ∙ length_shown s
 
--- the same of a whole state
-pub spent : {S P : Type 0} (K : Kind S) (r c : ℕ) (ws ws' : List ℕ) (ss ss' : List S) (w w' : Work) (held : List Bool)
-    → r < length ss → c < w.active.width → length ss ≤ 256 → length ss' ≡ length ss → held ≡ map (holding ws c) (range_with_len 0 (length ss))
-    → Added K.sum (set held r false) r ws ws' ss ss'
-    → shown w'.active ≡ set (shown w.active) c false
-    → shown w'.uses.unused ≡ set (shown w.uses.unused) r false → w'.uses.columns ≡ set w.uses.columns r c
-    → w'.pivots ≡ w.pivots → w'.free ≡ w.free → w'.additions ≡ w.additions + count (set held r false)
-    → (p : P) → view K ws' ss' w' p ≡ spend K r c (view K ws ss w p)
-spent K r c ws ws' ss ss' w w' held in_r in_c few same held_is sums act unu col piv fre num p =
-    let n = w.active.width in
-    let in_w : r < length w.uses.columns = omega (arith, w.uses.room) in
-    let wide = same_width w.active w'.active c false act in
-    let used = lines_used K n r c ws ws' ss ss' w.uses w'.uses held in_r in_c same held_is sums unu col in_w in
-    let rows = ap (λ m. lines K m ws' ss' w'.uses) wide ∙ used in
-    let adds = num ∙ ap (λ k. w.additions + k) (others_added K n r c ws ws' ss ss' w.uses w'.uses held in_r in_c same held_is sums unu col in_w) in
-    λ i. record { rows = rows i; active = act i; pivots = listed (piv i); free = listed (fre i); additions = adds i; policy = p }
+-- the rows where a column leaves the active ones
+pub lines_wide : {S : Type 0} (K : Kind S) (e : Elimination S) (active : Columns) (c : ℕ) → shown active ≡ set (shown e.active) c false
+    → lines K active.width e.words.now e.sides.now e.uses ≡ rows_of K e
+lines_wide K e active c h = ap (λ m. lines K m e.words.now e.sides.now e.uses) (same_width e.active active c false h)
+
+-- the width of a set of rows that hold a column, without one of them
+pub others_width : (held rest : Columns) (r : ℕ) (t : ℕ → Bool) (m : ℕ) → shown held ≡ map t (range_with_len 0 m) → shown rest ≡ set (shown held) r false → rest.width ≡ m
+others_width held rest r t m e h = same_width held rest r false h ∙ held_width held t m e
+
+-- the same of a whole state: what the rows, the active columns and the uses become
+pub spent : {S : Type 0} (K : Kind S) (r c : ℕ) (e : Elimination S) (ws' : List ℕ) (ss' : List S) (active : Columns) (uses : Uses) (k : ℕ) (held : List Bool)
+    → r < length e.sides.now → c < e.active.width → length ss' ≡ length e.sides.now → held ≡ map (holding e.words.now c) (range_with_len 0 (length e.sides.now))
+    → Added K.sum (set held r false) r e.words.now ws' e.sides.now ss'
+    → shown active ≡ set (shown e.active) c false
+    → shown uses.unused ≡ set (shown e.uses.unused) r false → uses.columns ≡ set e.uses.columns r c
+    → k ≡ count (set held r false)
+    → record { rows = lines K active.width ws' ss' uses; active = shown active; pivots = e.pivots.items; free = e.free.items; additions = e.additions + k; policy = tt } ≡ spend K r c (bare K e)
+spent K r c e ws' ss' active uses k held in_r in_c same held_is sums act unu col num =
+    let n = e.active.width in
+    let ws = e.words.now in
+    let ss = e.sides.now in
+    let in_columns : r < length e.uses.columns = omega (arith, e.uses.room, e.few) in
+    let used = lines_used K n r c ws ws' ss ss' e.uses uses held in_r in_c same held_is sums unu col in_columns in
+    let rows = ap (λ m. lines K m ws' ss' uses) (same_width e.active active c false act) ∙ used in
+    let adds = ap (λ k. e.additions + k) (num ∙ others_added K n r c ws ws' ss ss' e.uses uses held in_r in_c same held_is sums unu col in_columns) in
+    λ i. record { rows = rows i; active = act i; pivots = e.pivots.items; free = e.free.items; additions = adds i; policy = tt }
+
+-- the active columns of row q, in its words
+pub part_at : {S : Type 0} (K : Kind S) (e : Elimination S) (q : ℕ) → q < length (rows_of K e)
+    → meet (marks_of e.active.width (row e.words.now q)) (shown e.active) ≡ meet (row_of K (rows_of K e) q).cols (shown e.active)
+part_at K e q l =
+    let n = e.active.width in
+    let ws = e.words.now in
+    let ss = e.sides.now in
+    ap (λ (x : Row _). meet x.cols (shown e.active)) (sym (line_at K n ws ss e.uses q (omega (arith, length_lines K n ws ss e.uses))))
 
 -- the lowest unused row that holds c
 meet_map : {S : Type 0} (c : ℕ) (rows : List (Row S)) → map (holder c) rows ≡ meet (map (row_holds c) rows) (map unused rows)
 meet_map c [] = refl
 meet_map c (q ∷ rows) = ap₂ ◌∷◌ (and_comm (unused q) (row_holds c q)) (meet_map c rows)
 
-pub lowest_holder : {S : Type 0} (K : Kind S) (n : ℕ) (ws : List ℕ) (ss : List S) (u : Uses) (c : ℕ) (held : List Bool) → c < n → u.unused.width ≡ length ss
-    → held ≡ map (holding ws c) (range_with_len 0 (length ss)) → (o : Option ℕ) → o ≡ lowest (λ b. b) (meet held (shown u.unused))
-    → lowest (holder c) (lines K n ws ss u) ≡ o
-lowest_holder K n ws ss u c held in_c high held_is o e =
-    sym (lowest_map (holder c) (lines K n ws ss u))
-    ∙ ap (lowest (λ b. b)) (meet_map c (lines K n ws ss u) ∙ ap₂ meet (map_holds K n ws ss u c in_c ∙ sym held_is) (map_unused K n ws ss u high)) ∙ sym e
+pub lowest_holder : {S : Type 0} (K : Kind S) (e : Elimination S) (c : ℕ) (held : List Bool) → c < e.active.width
+    → held ≡ map (holding e.words.now c) (range_with_len 0 (length e.sides.now)) → (o : Option ℕ) → o ≡ lowest (λ b. b) (meet held (shown e.uses.unused))
+    → lowest (holder c) (rows_of K e) ≡ o
+lowest_holder K e c held in_c held_is o h =
+    let n = e.active.width in
+    let ws = e.words.now in
+    let ss = e.sides.now in
+    sym (lowest_map (holder c) (rows_of K e))
+    ∙ ap (lowest (λ b. b)) (meet_map c (rows_of K e) ∙ ap₂ meet (map_holds K n ws ss e.uses c in_c ∙ sym held_is) (map_unused K n ws ss e.uses e.high)) ∙ sym h

@@ -1,13 +1,12 @@
 -- A row of a code read column by column.
-use Rattle.std.proofs.Common.{◌≡◌, ℕ, zero, suc, ◌+◌, ◌*◌, ◌/◌, ◌<◌, ◌≤◌, Bool, true, false, not, ◌||◌, eqb, ◌⊎◌, List, [], ◌∷◌, ◌++◌, length, get_or, take, set, Some, None, Option, sym, refl, ap, ◌∙◌, ap₂, inl, inr, arith, length-append, length-set, get_or-set_other, get_or-set_same, below_more}
-use Rattle.std.specs.List.{slice_get, AllByRecursion}
-use Rattle.std.proofs.lemmas.List.{ext_get_or, take_more, take_more_set}
-use Rattle.std.proofs.lemmas.Option.{slice_get-get_or}
+use Rattle.std.proofs.Common.{◌≡◌, ℕ, suc, ◌+◌, ◌*◌, ◌/◌, ◌<◌, ◌≤◌, Bool, true, false, not, ◌||◌, eqb, ◌⊎◌, List, [], ◌∷◌, ◌++◌, length, get_or, set, sym, refl, ap, ◌∙◌, ap₂, inl, inr, append-nil, arith, length-append, length-set, get_or-set_other, get_or-set_same, below_more}
+use Rattle.std.proofs.lemmas.List.{ext_get_or}
 use Rattle.std.proofs.lemmas.Bool.{cases_eq, eq-eqb, ne_eqb}
 use Rattle.bits.specs.Sets.{holds, Put, row, put_row}
 use Rattle.bits.proofs.Rows.{row_put_same, row_put_other}
 use Rattle.symbols.specs.Kinds.{Kind}
-use Rattle.codes.specs.Matrix.{Matrix, member}
+use Rattle.codes.specs.Matrix.{Matrix, Lawful, row_at, member}
+use Rattle.codes.specs.MatrixLaws.{row_lawful}
 use Rattle.codes.specs.Matrix.{Row as LawfulRow}
 use Rattle.method.specs.Sets.{has, count, marks, kept_if, marked}
 use Rattle.method.specs.Method.{missing}
@@ -15,7 +14,8 @@ use Rattle.method.proofs.Counts.{count_clear, none_count, count_le}
 use Rattle.method.proofs.Marks.{has_missing, has_marks, length_table, marks_less, marks_none}
 use Rattle.policies.specs.Shown.{marks_of}
 use Rattle.policies.proofs.Marks.{length_marks, marks_at}
-use Rattle.search.specs.Loads.{Read, Loaded}
+use Rattle.search.specs.declared.elimination.Elimination.{Elimination}
+use Rattle.search.specs.Loads.{Read, Loaded, Begun}
 use Rattle.search.proofs.Tallies.{count_same}
 
 or_false : (b : Bool) → (b || false) ≡ b
@@ -46,10 +46,6 @@ marked_push s (x ∷ xs) c = go (has s x) (marked_push s xs c)
     go true e = ap (λ ys. x ∷ ys) e
     go false e = e
 
-append_none : (xs : List ℕ) → xs ++ [] ≡ xs
-append_none [] = refl
-append_none (x ∷ xs) = ap (λ ys. x ∷ ys) (append_none xs)
-
 -- a row's columns: different, below the width, and so no more than it
 pub count_marks : (n : ℕ) (xs : List ℕ) → LawfulRow n xs → count (marks n xs) ≡ length xs
 count_marks n [] h = none_count (marks n []) (marks_none n)
@@ -58,86 +54,49 @@ count_marks n (x ∷ xs) h =
     sym (count_clear (marks n (x ∷ xs)) x in')
     ∙ ap suc (count_same _ _ (marks_less n x xs h.within.0 h.apart.0) ∙ count_marks n xs (record { within = h.within.1; apart = h.apart.1 }))
 
-pub row_short : (n : ℕ) (xs : List ℕ) → LawfulRow n xs → length xs ≤ n
+row_short : (n : ℕ) (xs : List ℕ) → LawfulRow n xs → length xs ≤ n
 row_short n xs h = omega (arith, count_marks n xs h, count_le (marks n xs), length_table n (λ c. member c xs))
 
-pub lawful_row : (n : ℕ) (rows : List (List ℕ)) → AllByRecursion (LawfulRow n) rows → (r : ℕ) → LawfulRow n (get_or rows r [])
-lawful_row n [] h r = record { within = tt; apart = tt }
-lawful_row n (row ∷ rows) h zero = h.0
-lawful_row n (row ∷ rows) h (suc r) = lawful_row n rows h.1 r
+pub row_few : (k : Matrix) → Lawful k → (r : ℕ) → length (row_at k r) ≤ 512
+row_few k ok r = omega (arith, row_short k.width (row_at k r) (row_lawful k ok r), ok.few_columns)
 
-some_same : (a b : ℕ) → ◌≡◌ {A = Option ℕ} (Some a) (Some b) → a ≡ b
-some_same a b e = cc
-
-some_none : (a : ℕ) → ◌≡◌ {A = Option ℕ} None (Some a) → ⊥
-some_none a e = let z : ◌≡◌ {A = ℕ} 0 1 = cc in omega arith
-
--- what a code answers for a column of its row
-pub column_is : (cs : List ℕ) (i c : ℕ) → i < length cs → Some c ≡ slice_get cs i → c ≡ get_or cs i 0
-column_is cs i c l e = some_same c (get_or cs i 0) (e ∙ slice_get-get_or cs i 0 l)
-
-pub column_some : (cs : List ℕ) (i : ℕ) → i < length cs → None ≡ slice_get cs i → ⊥
-column_some cs i l e = some_none (get_or cs i 0) (e ∙ slice_get-get_or cs i 0 l)
-
--- the first i columns are read: g of them received, and l missing
-pub record Reading (got : List Bool) (cs : List ℕ) (i : ℕ) (line heard : List ℕ) (g l : ℕ) : Type 0 where
+-- these columns are read: those received, and l missing
+pub record Reading (got : List Bool) (cs : List ℕ) (line heard : List ℕ) (l : ℕ) : Type 0 where
   pub eight : length line ≡ 8
-  pub held : (d : ℕ) → holds line d ≡ member d (marked (missing got) (take i cs))
-  pub long : length heard ≡ 512
-  pub kept : take g heard ≡ marked got (take i cs)
-  pub lost : l ≡ length (marked (missing got) (take i cs))
-  pub few : g + l ≤ i
-  pub short : length cs ≤ 512
+  pub held : (d : ℕ) → holds line d ≡ member d (marked (missing got) cs)
+  pub kept : heard ≡ marked got cs
+  pub lost : l ≡ length (marked (missing got) cs)
+  pub few : length heard + l ≤ length cs
 
-module _ (got : List Bool) (cs : List ℕ) (i : ℕ) (line heard : List ℕ) (g l c : ℕ) (so : Reading got cs i line heard g l)
-    (in' : i < length cs) (is : c ≡ get_or cs i 0) (low : c < length got) where
-  one_more : (s : List Bool) → marked s (take (i + 1) cs) ≡ marked s (take i cs) ++ kept_if (has s c) c []
-  one_more s =
-      ap (marked s) (take_more cs i 0 in' ∙ ap (λ x. take i cs ++ x ∷ []) (sym is)) ∙ marked_push s (take i cs) c
+module _ (got : List Bool) (cs line heard : List ℕ) (l c : ℕ) (so : Reading got cs line heard l) (low : c < length got) where
+  more : (s : List Bool) → has s c ≡ true → marked s (cs ++ c ∷ []) ≡ marked s cs ++ c ∷ []
+  more s e = marked_push s cs c ∙ ap (λ b. marked s cs ++ kept_if b c []) e
 
-  more : (s : List Bool) → has s c ≡ true → marked s (take (i + 1) cs) ≡ marked s (take i cs) ++ c ∷ []
-  more s e = one_more s ∙ ap (λ b. marked s (take i cs) ++ kept_if b c []) e
+  less : (s : List Bool) → has s c ≡ false → marked s (cs ++ c ∷ []) ≡ marked s cs
+  less s e = marked_push s cs c ∙ ap (λ b. marked s cs ++ kept_if b c []) e ∙ append-nil (marked s cs)
 
-  less : (s : List Bool) → has s c ≡ false → marked s (take (i + 1) cs) ≡ marked s (take i cs)
-  less s e = one_more s ∙ ap (λ b. marked s (take i cs) ++ kept_if b c []) e ∙ append_none (marked s (take i cs))
-
-  pub reading_got : has got c ≡ true → Reading got cs (i + 1) line (set heard g c) (g + 1) l
-  reading_got e =
+  pub reading_got : has got c ≡ true → (heard' : List ℕ) → heard' ≡ heard ++ c ∷ [] → Reading got (cs ++ c ∷ []) line heard' l
+  reading_got e heard' z =
       let off : has (missing got) c ≡ false = has_missing got c low ∙ ap not e in
       record {
         eight = so.eight;
         held = λ d. so.held d ∙ ap (member d) (sym (less (missing got) off));
-        long = length-set heard g c ∙ so.long;
-        kept = take_more_set heard g c (omega (arith, so.long, so.few)) ∙ ap (λ xs. xs ++ c ∷ []) so.kept ∙ sym (more got e);
+        kept = z ∙ ap (λ xs. xs ++ c ∷ []) so.kept ∙ sym (more got e);
         lost = so.lost ∙ ap length (sym (less (missing got) off));
-        few = omega (arith, so.few);
-        short = so.short;
+        few = omega (arith, so.few, ap length z, length-append heard (c ∷ []), length-append cs (c ∷ []));
       }
 
-  pub reading_lost : has got c ≡ false → (line' : List ℕ) → length line' ≡ length line → Put c line line' → c < 512 → Reading got cs (i + 1) line' heard g (l + 1)
+  pub reading_lost : has got c ≡ false → (line' : List ℕ) → length line' ≡ length line → Put c line line' → c < 512 → Reading got (cs ++ c ∷ []) line' heard (l + 1)
   reading_lost e line' same put narrow =
       let on : has (missing got) c ≡ true = has_missing got c low ∙ ap not e in
       let within : c / 64 < length line = omega (arith, so.eight) in
       record {
         eight = same ∙ so.eight;
-        held = λ d. put.within within d ∙ ap₂ ◌||◌ (so.held d) (eqb_turned c d) ∙ sym (ap (member d) (more (missing got) on) ∙ member_push d (marked (missing got) (take i cs)) c);
-        long = so.long;
+        held = λ d. put.within within d ∙ ap₂ ◌||◌ (so.held d) (eqb_turned c d) ∙ sym (ap (member d) (more (missing got) on) ∙ member_push d (marked (missing got) cs) c);
         kept = so.kept ∙ sym (less got e);
-        lost = ap (λ n. n + 1) so.lost ∙ sym (ap length (more (missing got) on) ∙ length-append (marked (missing got) (take i cs)) (c ∷ []));
-        few = omega (arith, so.few);
-        short = so.short;
+        lost = ap (λ n. n + 1) so.lost ∙ sym (ap length (more (missing got) on) ∙ length-append (marked (missing got) cs) (c ∷ []));
+        few = omega (arith, so.few, length-append cs (c ∷ []));
       }
-
-pub reading_none : (got : List Bool) (cs heard : List ℕ) → length cs ≤ 512 → length heard ≡ 512 → (line : List ℕ) → length line ≡ 8 → ((d : ℕ) → holds line d ≡ false) → Reading got cs 0 line heard 0 0
-reading_none got cs heard short long line eight none = record {
-  eight = eight;
-  held = none;
-  long = long;
-  kept = refl;
-  lost = refl;
-  few = omega arith;
-  short = short;
-}
 
 -- the words of a row, as the marks of its missing columns
 pub reading_marks : (n : ℕ) (line xs : List ℕ) → ((d : ℕ) → holds line d ≡ member d xs) → marks_of n line ≡ marks n xs
@@ -146,15 +105,19 @@ reading_marks n line xs held =
     let l : c < n = omega (arith, length_marks n line) in
     marks_at n line c false l ∙ held c ∙ sym (has_marks n xs c l))
 
-pub reading_moved : {got : List Bool} {cs : List ℕ} {i : ℕ} {line line' heard heard' : List ℕ} {g g' l l' : ℕ} → line' ≡ line → heard' ≡ heard → g' ≡ g → l' ≡ l
-    → Reading got cs i line heard g l → Reading got cs i line' heard' g' l'
-reading_moved a b e f h = rw (a, b, e, f) h
+pub reading_moved : {got : List Bool} {cs : List ℕ} {line line' heard heard' : List ℕ} {l l' : ℕ} → line' ≡ line → heard' ≡ heard → l' ≡ l
+    → Reading got cs line heard l → Reading got cs line' heard' l'
+reading_moved a b e h = rw (a, b, e) h
 
 -- every row loaded
 module _ {S : Type 0} (K : Kind S) (k : Matrix) (received : List Bool) (syms : List S) where
   read_moved : {q : ℕ} {line line' : List ℕ} {side side' : S} {some some' : ℕ} → line' ≡ line → side' ≡ side → some' ≡ some
       → Read K k received syms q line side some → Read K k received syms q line' side' some'
   read_moved a b e h = rw (a, b, e) h
+
+  pub loaded_moved : {ws ws' : List ℕ} {ss ss' : List S} {counts : List ℕ} {i i' : ℕ} → ws' ≡ ws → ss' ≡ ss → i' ≡ i
+      → Loaded K k received syms ws ss counts i → Loaded K k received syms ws' ss' counts i'
+  loaded_moved a b e h = rw (a, b, e) h
 
   pub loaded_none : (ws : List ℕ) (ss : List S) (counts : List ℕ) → length counts ≡ 256 → Loaded K k received syms ws ss counts 0
   loaded_none ws ss counts l = record { all = l; each = λ q h. absurd (omega arith) }
@@ -174,3 +137,6 @@ module _ {S : Type 0} (K : Kind S) (k : Matrix) (received : List Bool) (syms : L
         (ap (λ xs. get_or xs i K.zero) b ∙ get_or-set_same ss i side K.zero in')
         (ap (λ xs. get_or xs i 0) e ∙ get_or-set_same counts i some 0 (omega (arith, h.all))) read);
   }
+
+pub begun_moved : {S : Type 0} {n n' m m' : ℕ} {received : List Bool} {counts : List ℕ} {e : Elimination S} → n' ≡ n → m' ≡ m → Begun n m received counts e → Begun n' m' received counts e
+begun_moved a b h = rw (a, b) h

@@ -8,20 +8,9 @@ use Rattle.method.specs.Choices.{Names, Naming}
 use Rattle.method.proofs.Counts.{count_clear, none_count, count_le}
 use Rattle.method.proofs.Marks.{lowest_some, lowest_none}
 use Rattle.method.proofs.Loop.{steps_done}
-use Rattle.search.specs.declared.work.Work.{Work}
-use Rattle.search.specs.Steps.{Going, Moved, Ended}
+use Rattle.search.specs.declared.elimination.Elimination.{Elimination}
+use Rattle.search.specs.Steps.{SameMemory, Moved, Ended}
 use Rattle.search.specs.View.{with_policy}
-
--- a search that peels, of its own width
-pub going_own : {S : Type 0} {K : Kind S} {n : ℕ} {ws : List ℕ} {ss : List S} {w : Work} → Going K n ws ss w → Going K w.active.width ws ss w
-going_own h = record {
-  sized = record { wide = refl; high = h.sized.high; few = h.sized.few; within = h.sized.within };
-  room = h.room;
-  tallied = h.tallied;
-}
-
-pub going_as : {S : Type 0} {K : Kind S} {n m : ℕ} {ws : List ℕ} {ss : List S} {w : Work} → Going K n ws ss w → n ≡ m → Going K m ws ss w
-going_as {S} {K} {n} {m} {ws} {ss} {w} h e = subst (λ k. Going K k ws ss w) e h
 
 module _ {S P : Type 0} (K : Kind S) (choice : Choice P) (x : State S P) (c : ℕ) (active : has x.active c ≡ true) where
   going : eqb (count x.active) 0 ≡ false
@@ -67,6 +56,10 @@ module _ {S P : Type 0} (K : Kind S) (choice : Choice P) (x y z : State S P) whe
       let k = n - count z.active in
       let e : k + count z.active ≡ n = omega (arith, count_le z.active) in
       m.same ∙ sym (steps_done K choice (k + count x.active) x m.idle) ∙ inv k ∙ ap (λ j. steps K choice j z) e
+
+-- the memory stays the same over two steps
+pub memory_again : {S : Type 0} {x y z : Elimination S} → SameMemory x y → SameMemory y z → SameMemory x z
+memory_again m n = record { words = n.words ∙ m.words; sides = n.sides ∙ m.sides; long = n.long ∙ m.long; high = n.high ∙ m.high }
 
 -- settling goes by no policy
 pub settle_policy : {S P Q : Type 0} (K : Kind S) (q : Q) (cs : List ℕ) (s : State S P) → with_policy q (settle K cs s) ≡ settle K cs (with_policy q s)

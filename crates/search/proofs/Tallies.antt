@@ -1,7 +1,8 @@
 -- The tally of the rows, where a column leaves the active ones.
-use Rattle.std.proofs.Common.{◌≡◌, ℕ, zero, suc, ◌<◌, Bool, true, false, ◌&&◌, eqb, ◌⊎◌, List, [], ◌∷◌, length, get_or, set, Some, None, Option, sym, refl, ap, ◌∙◌, subst, ap₂, inl, inr, arith, get_or-set_other}
+use Rattle.std.proofs.Common.{◌≡◌, ℕ, zero, suc, ◌<◌, ◌≤◌, Bool, true, false, ◌&&◌, eqb, ◌⊎◌, List, [], ◌∷◌, map, length, get_or, set, Some, None, Option, sym, refl, ap, ◌∙◌, subst, ap₂, inl, inr, arith, get_or-set_other}
 use mathlib.Core.Bool.{and-false}
 use lib.ListN.{length-map}
+use Rattle.std.specs.List.{range_with_len}
 use Rattle.std.proofs.lemmas.List.{ext_get_or, get_or-map}
 use Rattle.std.proofs.lemmas.Bool.{cases_eq, cond-true, cond-false, and_parts, and_from, and_right, both_ways, eqb-true}
 use Rattle.symbols.specs.Kinds.{Kind}
@@ -11,10 +12,14 @@ use Rattle.method.proofs.Marks.{has_meet, has_sym_diff, differs_false, lowest_so
 use Rattle.method.proofs.Counts.{count_clear, none_count, only_one, lowest_in}
 use Rattle.method.proofs.Rows.{use_same, use_other}
 use Rattle.policies.specs.Shown.{shown}
-use Rattle.policies.proofs.Marks.{length_shown}
+use Rattle.policies.specs.declared.columns.Columns.{Columns}
+use Rattle.policies.proofs.Marks.{length_shown, shown_below}
+use Rattle.search.specs.declared.elimination.Elimination.{Elimination}
+use Rattle.search.specs.Rows.{holding}
+use Rattle.search.specs.View.{rows_of}
 use Rattle.search.specs.declared.tally.Tally.{Tally}
-use Rattle.search.specs.Steps.{Tallied, Lowered, Lone}
-use Rattle.search.proofs.Lines.{lowest_map, use_length}
+use Rattle.search.specs.Steps.{Tallied, Going, Lowered, Lone}
+use Rattle.search.proofs.Lines.{lowest_map, use_length, length_lines, held_width, held_at}
 
 -- sets with the same numbers count the same
 pub count_same : (s t : List Bool) → ((c : ℕ) → has s c ≡ has t c) → count s ≡ count t
@@ -193,3 +198,27 @@ module _ {S : Type 0} (K : Kind S) where
     tallied_used =
         tallied_next rows (use_row K r c rows) active held unused' c t t' ok low is.is_active (use_length K rows r c) held_is
         (λ q l d. part_used rows active r c is.within single own q d) unused_is (λ q l e. kept q e (cases_eq q r))
+
+-- of an elimination that peels: the rows that hold an active column
+module _ {S : Type 0} {K : Kind S} {e : Elimination S} (ok : Going K e) (held : Columns) (c : ℕ) (held_is : shown held ≡ map (holding e.words.now c) (range_with_len 0 (length e.sides.now)))
+    (is_active : has (shown e.active) c ≡ true) where
+  high : length (rows_of K e) ≡ length e.sides.now
+  high = length_lines K e.active.width e.words.now e.sides.now e.uses
+
+  wide : held.width ≡ length e.sides.now
+  wide = held_width held (holding e.words.now c) (length e.sides.now) held_is
+
+  pub held_few : held.width ≤ 256
+  held_few = omega (arith, wide, e.few)
+
+  pub held_ready : e.tally.ready.width ≡ held.width
+  held_ready = length_ready K ok.tallied ∙ high ∙ sym wide
+
+  pub held_row : (q : ℕ) → q < length (rows_of K e) → has (shown held) q ≡ row_holds c (row_of K (rows_of K e) q)
+  held_row q l =
+      held_at K e.active.width e.words.now e.sides.now e.uses (shown held) c (shown_below e.active c is_active) held_is q (omega (arith, high))
+
+  pub held_some : (q : ℕ) → has (shown held) q ≡ true → 0 < get_or e.tally.counts q 0
+  held_some q h =
+      let low : q < length (rows_of K e) = omega (arith, shown_below held q h, wide, high) in
+      some_count K ok.tallied q c low (sym (held_row q low) ∙ h) is_active

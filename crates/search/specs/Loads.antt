@@ -4,7 +4,7 @@
 --   Loaded        the rows below i loaded
 --   singles       the rows below m with a count of one
 --   Begun         nothing done yet: the missing places are active, and no row is used
-use Rattle.std.specs.Prelude.{◌≡◌, ℕ, ◌<◌, Bool, true, List, map, length, take, replicate, ◌==◌, slice_index, slice_index_or}
+use Rattle.std.specs.Prelude.{◌≡◌, ℕ, ◌<◌, Bool, true, List, [], map, length, take, replicate, ◌==◌, slice_index, slice_index_or}
 use Rattle.std.specs.List.{range_with_len}
 use Rattle.bits.specs.Sets.{row}
 use Rattle.symbols.specs.Kinds.{Kind}
@@ -12,7 +12,7 @@ use Rattle.codes.specs.Matrix.{Matrix, row_at}
 use Rattle.method.specs.Sets.{marked}
 use Rattle.method.specs.Method.{missing, start_row}
 use Rattle.policies.specs.Shown.{marks_of, shown}
-use Rattle.search.specs.declared.work.Work.{Work}
+use Rattle.search.specs.declared.elimination.Elimination.{Elimination}
 use Rattle.search.specs.Searches.{marks_in}
 
 pub record Read {S : Type 0} (K : Kind S) (k : Matrix) (received : List Bool) (table : List S) (r : ℕ) (line : List ℕ) (side : S) (some : ℕ) : Type 0 where
@@ -33,11 +33,11 @@ single counts q = slice_index counts q == 1
 abbrev pub singles : ℕ → List ℕ → List Bool
 singles m counts = map (single counts) (range_with_len 0 m)
 
-pub record Begun (n m : ℕ) (received : List Bool) (counts : List ℕ) (w : Work) : Type 0 where
-  pub active : shown w.active ≡ missing (take n received)
-  pub unused : shown w.uses.unused ≡ replicate m true
-  pub counted : w.tally.counts ≡ counts
-  pub ready : shown w.tally.ready ≡ singles m counts
-  pub pivots : w.pivots.len ≡ 0
-  pub free : w.free.len ≡ 0
-  pub additions : w.additions ≡ 0
+pub record Begun {S : Type 0} (n m : ℕ) (received : List Bool) (counts : List ℕ) (e : Elimination S) : Type 0 where
+  pub active : shown e.active ≡ missing (take n received)
+  pub unused : shown e.uses.unused ≡ replicate m true
+  pub counted : e.tally.counts ≡ counts
+  pub ready : shown e.tally.ready ≡ singles m counts
+  pub pivots : e.pivots.items ≡ []
+  pub free : e.free.items ≡ []
+  pub additions : e.additions ≡ 0

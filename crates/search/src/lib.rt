@@ -3,9 +3,12 @@
 #![tactic(auto)]
 
 mod answer;
+mod elimination;
 mod found;
+mod heard;
 mod load;
 mod numbers;
+mod passing;
 mod peel;
 mod read;
 mod rows;
@@ -13,10 +16,8 @@ mod settle;
 mod tally;
 #[cfg(test)]
 mod tests;
-mod trail;
 mod uses;
 mod whole;
-mod work;
 
 pub use answer::{Report, Unfound};
 pub use found::Found;

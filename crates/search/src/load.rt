@@ -1,6 +1,6 @@
 // Loading: each row's missing columns and the sum of its received symbols, and what is kept beside the rows.
-ghost use Rattle.std.specs.Prelude.{◌≡◌, ℕ, ◌*◌, ◌<◌, ◌≤◌, length, take, slice_index};
-ghost use Rattle.codes.specs.Matrix.{height, weight, row_at};
+ghost use Rattle.std.specs.Prelude.{◌≡◌, ◌*◌, ◌<◌, ◌≤◌, length, take};
+ghost use Rattle.codes.specs.Matrix.{height};
 ghost use Rattle.method.specs.Method.{missing, start};
 ghost use Rattle.policies.specs.Shown.{shown};
 ghost use Rattle.search.specs.Loads.{Read, Loaded, singles, Begun};
@@ -8,146 +8,129 @@ ghost use Rattle.search.specs.Searches.{marks_in};
 ghost use Rattle.search.specs.Steps.{Going};
 ghost use Rattle.search.specs.View.{bare};
 
+use crate::elimination::Elimination;
+use crate::heard::Heard;
+use crate::passing::passing;
 use crate::tally::Tally;
-use crate::trail::Trail;
 use crate::uses::Uses;
-use crate::work::Work;
-use codes::Code;
+use arrayvec::ArrayVec;
+use codes::{Code, Rows};
 use policies::Columns;
 use symbols::{Symbol, sum_at};
-
-// Column i of row r.
-fn column_at<C: Code>(code: &C, r: usize, i: usize) -> usize
-    requires { i < weight (C.Rows.matrix code.now) r }
-    ensures is { result ≡ slice_index (row_at (C.Rows.matrix code.now) r) i }
-    ensures low { result < (C.Rows.matrix code.now).width }
-    ensures narrow { result < 512 }
-{
-    match code.column(r, i) {
-        Some(c) => c,
-        None => 0,
-    }
-}
-
-// Reads row r: its missing columns as a set, the sum of its received symbols, and how many columns are missing.
-fn read_row<S: Symbol, C: Code>(
-    code: &C,
-    table: &[S],
-    received: &[bool; 512],
-    heard: &mut [u16; 512],
-    r: usize,
-) -> (bits::Set, S, u16)
-    requires { r < height (C.Rows.matrix code.now) }
-    ensures { Read S.Symbol.kind (C.Rows.matrix code.now) received.now table.now r result.0 result.1 result.2 }
-{
-    let mut line = [0; 8];
-    let mut got = 0;
-    let mut lost = 0;
-    for i in 0..code.weight(r) {
-        let c = column_at(code, r, i);
-        if received[c] {
-            heard[got] = c as u16;
-            got += 1;
-        } else {
-            bits::put(&mut line, c);
-            lost += 1;
-        }
-    }
-    (line, sum_at(table, &heard[0..got]), lost)
-}
-
-// Loads every row, and counts the missing columns of each.
-fn load_rows<S: Symbol, C: Code>(
-    code: &C,
-    table: &[S],
-    received: &[bool; 512],
-    words: &mut [u64],
-    sides: &mut [S],
-) -> [u16; 256]
-    requires high { length sides.old ≡ height (C.Rows.matrix code.now) }
-    requires within { length words.old ≡ 8 * length sides.old }
-    ensures { Loaded S.Symbol.kind (C.Rows.matrix code.now) received.now table.now words.new sides.new result (length sides.old) }
-{
-    let mut heard = [0; 512];
-    let mut counts = [0; 256];
-    for r in 0..sides.len() {
-        let (line, side, lost) = read_row(code, table, received, &mut heard, r);
-        bits::put_line(words, r, &line);
-        sides[r] = side;
-        counts[r] = lost;
-    }
-    counts
-}
-
-// The missing places below n.
-fn missing_below(n: usize, received: &[bool; 512]) -> Columns
-    requires { n ≤ 512 }
-    ensures { shown result ≡ missing (take n received.now) }
-{
-    let mut set = Columns::none(n);
-    for c in 0..n {
-        if !received[c] {
-            set.put(c);
-        }
-    }
-    set
-}
 
 // The rows below m with a count of one.
 fn lone_rows(m: usize, counts: &[u16; 256]) -> Columns
     requires { m ≤ 256 }
     ensures { shown result ≡ singles m counts.now }
 {
-    let mut set = Columns::none(m);
-    for r in 0..m {
-        if counts[r] == 1 {
-            set.put(r);
+    passing(m, |r| counts[r] == 1)
+}
+
+impl<S: Symbol> Heard<'_, S> {
+    // The missing places.
+    fn missing(&self) -> Columns
+        requires { length self.now.table.now ≤ 512 }
+        ensures { shown result ≡ missing (take (length self.now.table.now) self.now.received.now) }
+    {
+        let received = self.received;
+        passing(self.table.len(), |c| !received[c])
+    }
+
+    // Reads row r: its missing columns as a set, the sum of its received symbols, and how many columns are missing.
+    fn read_row<C: Code>(
+        &self,
+        code: &C,
+        heard: &mut ArrayVec<u16, 512>,
+        r: usize,
+    ) -> (bits::Set, S, u16)
+        requires { r < height (C.Rows.matrix code.now) }
+        ensures { Read S.Symbol.kind (C.Rows.matrix code.now) self.now.received.now self.now.table.now r result.0 result.1 result.2 }
+    {
+        let mut line = [0; 8];
+        let mut lost = 0;
+        heard.clear();
+        for c in code.row(r) {
+            if self.received[c] {
+                heard.push(c as u16);
+            } else {
+                bits::put(&mut line, c);
+                lost += 1;
+            }
+        }
+        (line, sum_at(self.table, heard.as_slice()), lost)
+    }
+
+    // Loads every row, and counts the missing columns of each.
+    fn load_rows<C: Code>(&self, code: &C, words: &mut [u64], sides: &mut [S]) -> [u16; 256]
+        requires high { length sides.old ≡ height (C.Rows.matrix code.now) }
+        requires within { length words.old ≡ 8 * length sides.old }
+        ensures { Loaded S.Symbol.kind (C.Rows.matrix code.now) self.now.received.now self.now.table.now words.new sides.new result (length sides.old) }
+    {
+        let mut heard = ArrayVec::new();
+        let mut counts = [0; 256];
+        for (r, side) in sides.iter_mut().enumerate() {
+            let (line, sum, lost) = self.read_row(code, &mut heard, r);
+            bits::put_line(words, r, &line);
+            *side = sum;
+            counts[r] = lost;
+        }
+        counts
+    }
+
+    // Nothing done yet: the missing places are active, and every row is unused.
+    fn begin<'m>(
+        &self,
+        counts: [u16; 256],
+        words: &'m mut [u64],
+        sides: &'m mut [S],
+    ) -> Elimination<'m, S>
+        requires wide { length self.now.table.now ≤ 512 }
+        requires few { length sides.old ≤ 256 }
+        requires within { 8 * length sides.old ≤ length words.old }
+        ensures words { result.words.ghost_name ≡ words.entry.ghost_name }
+        ensures sides { result.sides.ghost_name ≡ sides.entry.ghost_name }
+        ensures lines { result.words.now ≡ words.old }
+        ensures rights { result.sides.now ≡ sides.old }
+        ensures begun { Begun (length self.now.table.now) (length sides.old) self.now.received.now counts result }
+    {
+        let m = sides.len();
+        Elimination {
+            words,
+            sides,
+            active: self.missing(),
+            uses: Uses {
+                unused: Columns::all(m),
+                columns: [0; 256],
+            },
+            tally: Tally {
+                counts,
+                ready: lone_rows(m, &counts),
+            },
+            pivots: ArrayVec::new(),
+            free: ArrayVec::new(),
+            additions: 0,
         }
     }
-    set
-}
 
-// Nothing done yet: the missing places below n are active, and m rows are unused.
-fn begin(n: usize, m: usize, received: &[bool; 512], counts: [u16; 256]) -> Work
-    requires { (n ≤ 512) × (m ≤ 256) }
-    ensures { Begun n m received.now counts result }
-{
-    Work {
-        active: missing_below(n, received),
-        uses: Uses {
-            unused: Columns::all(m),
-            columns: [0; 256],
-        },
-        tally: Tally {
-            counts,
-            ready: lone_rows(m, &counts),
-        },
-        pivots: Trail {
-            columns: [0; 512],
-            len: 0,
-        },
-        free: Trail {
-            columns: [0; 512],
-            len: 0,
-        },
-        additions: 0,
+    // Loads the rows and begins.
+    pub(crate) fn load<'m, C: Code>(
+        &self,
+        code: &C,
+        words: &'m mut [u64],
+        sides: &'m mut [S],
+    ) -> Elimination<'m, S>
+        requires wide { length self.now.table.now ≡ (C.Rows.matrix code.now).width }
+        requires high { length sides.old ≡ height (C.Rows.matrix code.now) }
+        requires within { length words.old ≡ 8 * length sides.old }
+        ensures words { result.words.ghost_name ≡ words.entry.ghost_name }
+        ensures sides { result.sides.ghost_name ≡ sides.entry.ghost_name }
+        ensures long { length result.words.now ≡ length words.old }
+        ensures high { length result.sides.now ≡ length sides.old }
+        ensures wide { result.active.width ≡ (C.Rows.matrix code.now).width }
+        ensures going { Going S.Symbol.kind result }
+        ensures state { bare S.Symbol.kind result ≡ start S.Symbol.kind (C.Rows.matrix code.now) (marks_in (C.Rows.matrix code.now) self.now.received.now) self.now.table.now tt }
+    {
+        let counts = self.load_rows(code, words, sides);
+        self.begin(counts, words, sides)
     }
-}
-
-// Loads the rows and begins.
-pub(crate) fn load<S: Symbol, C: Code>(
-    code: &C,
-    table: &[S],
-    received: &[bool; 512],
-    words: &mut [u64],
-    sides: &mut [S],
-) -> Work
-    requires wide { length table.now ≡ (C.Rows.matrix code.now).width }
-    requires high { length sides.old ≡ height (C.Rows.matrix code.now) }
-    requires within { length words.old ≡ 8 * length sides.old }
-    ensures state { bare S.Symbol.kind words.new sides.new result ≡ start S.Symbol.kind (C.Rows.matrix code.now) (marks_in (C.Rows.matrix code.now) received.now) table.now tt }
-    ensures going { Going S.Symbol.kind (C.Rows.matrix code.now).width words.new sides.new result }
-{
-    let counts = load_rows(code, table, received, words, sides);
-    begin(table.len(), sides.len(), received, counts)
 }

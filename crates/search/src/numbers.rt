@@ -23,7 +23,7 @@ impl Unfound {
     {
         match self {
             Unfound::OtherWidth(n) | Unfound::ShortMemory(n) => n as u64,
-            Unfound::NoCodeword(report) | Unfound::Several(report, _) => report.pivots as u64,
+            Unfound::NoCodeword(report) | Unfound::Several(report, _) => u64::from(report.pivots),
         }
     }
 }

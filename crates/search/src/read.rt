@@ -15,8 +15,8 @@ use symbols::Symbol;
 pub(crate) fn clashes<S: Symbol>(sides: &[S], uses: &Uses) -> bool
     ensures { (n : ℕ) (ws : List ℕ) → result ≡ is_some (lowest (clash S.Symbol.kind) (lines S.Symbol.kind n ws sides.now uses.now)) }
 {
-    for r in 0..sides.len() {
-        if uses.unused.has(r) && !sides[r].is_zero() {
+    for (r, side) in sides.iter().enumerate() {
+        if uses.unused.has(r) && !side.is_zero() {
             return true;
         }
     }
@@ -32,7 +32,7 @@ impl Uses {
         if self.unused.has(r) {
             None
         } else {
-            Some(self.columns[r] as usize)
+            Some(usize::from(self.columns[r]))
         }
     }
 }
@@ -57,7 +57,7 @@ pub(crate) fn places(uses: &Uses, m: usize) -> [Option<u8>; 512]
 fn side_at<S: Symbol>(sides: &[S], r: usize) -> S
     ensures { result ≡ slice_index_or sides.now r S.Symbol.kind.zero }
 {
-    if r < sides.len() { sides[r] } else { S::zero() }
+    sides.get(r).copied().unwrap_or(S::zero())
 }
 
 impl Found {
@@ -72,14 +72,7 @@ impl Found {
     fn row_of(&self, c: usize) -> Option<usize>
         ensures { result ≡ slice_index_or self.now.rows c None }
     {
-        if c >= 512 {
-            return None;
-        }
-        let row = self.rows[c];
-        match row {
-            Some(r) => Some(r as usize),
-            None => None,
-        }
+        self.rows.get(c).copied().flatten().map(usize::from)
     }
 
     // The symbol of column c in the right sides that the search left; zero where no row is used for it.
@@ -97,8 +90,9 @@ impl Found {
 fn fill_first<S: Symbol>(sides: &mut [S], m: usize, z: S)
     ensures { sides.new ≡ wiped z m sides.old }
 {
-    for i in 0..m.min(sides.len()) {
-        sides[i] = z;
+    let k = m.min(sides.len());
+    for side in &mut sides[..k] {
+        *side = z;
     }
 }
 

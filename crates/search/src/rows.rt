@@ -6,6 +6,7 @@ ghost use Rattle.method.specs.Sets.{has, count};
 ghost use Rattle.policies.specs.Shown.{shown};
 ghost use Rattle.search.specs.Rows.{holding, Added};
 
+use crate::passing::passing;
 use policies::Columns;
 use symbols::Symbol;
 
@@ -14,13 +15,7 @@ pub(crate) fn holders(words: &[u64], m: usize, c: usize) -> Columns
     requires { m ≤ 512 }
     ensures { shown result ≡ map (holding words.now c) (range_with_len 0 m) }
 {
-    let mut held = Columns::none(m);
-    for r in 0..m {
-        if bits::row_has(words, r, c) {
-            held.put(r);
-        }
-    }
-    held
+    passing(m, |r| bits::row_has(words, r, c))
 }
 
 // Adds a set and a symbol to row q.
@@ -48,10 +43,8 @@ pub(crate) fn add_to_each<S: Symbol>(
 {
     let line = bits::line_at(words, r);
     let side = sides[r];
-    let mut left = *others;
     let mut count = 0;
-    while let Some(q) = left.least() {
-        left.leave(q);
+    for q in others {
         add_line(words, sides, q, &line, &side);
         count += 1;
     }

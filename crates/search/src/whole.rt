@@ -1,52 +1,73 @@
 // The whole search.
-ghost use Rattle.std.specs.Prelude.{◌≡◌, ℕ, ◌*◌, ◌≤◌, length, None};
+ghost use Rattle.std.specs.Prelude.{◌≡◌, ℕ, ◌*◌, ◌≤◌, Bool, List, length, None};
 ghost use Rattle.refusals.specs.Refusals.{first_of};
 ghost use Rattle.codes.specs.Matrix.{height};
+ghost use Rattle.method.specs.Method.{start};
 ghost use Rattle.search.specs.Answers.{causes};
+ghost use Rattle.search.specs.Steps.{Going};
+ghost use Rattle.search.specs.View.{bare};
 ghost use Rattle.search.specs.Searches.{Run, Looked, Tells, done, searched, marks_in, read_out};
 
 use crate::answer::{Report, Unfound};
+use crate::elimination::Elimination;
 use crate::found::Found;
-use crate::load::load;
+use crate::heard::Heard;
 use crate::read::{clashes, places, wipe};
-use crate::settle::eliminate;
 use codes::Code;
 use policies::Policy;
 use symbols::Symbol;
+
+impl<S: Symbol> Elimination<'_, S> {
+    // Eliminates, and tells what was found.
+    fn solve<C: Code, P: Policy>(&mut self, code: &C, policy: &mut P) -> Result<Found, Unfound>
+        requires going { Going S.Symbol.kind self.old }
+        requires wide { self.old.active.width ≡ (C.Rows.matrix code.now).width }
+        requires high { length self.old.sides.now ≡ height (C.Rows.matrix code.now) }
+        requires within { length self.old.words.now ≡ 8 * length self.old.sides.now }
+        ensures words { self.new.words.ghost_name ≡ self.old.words.ghost_name }
+        ensures sides { self.new.sides.ghost_name ≡ self.old.sides.ghost_name }
+        ensures run { (received : List Bool) (table : List S) → bare S.Symbol.kind self.old ≡ start S.Symbol.kind (C.Rows.matrix code.now) (marks_in (C.Rows.matrix code.now) received) table tt → Run S.Symbol.kind P.Policy.choice (C.Rows.matrix code.now) received table policy.old policy.new self.new.words.now self.new.sides.now result }
+    {
+        self.eliminate(code, policy);
+        let uses = self.uses;
+        let report = Report {
+            pivots: self.pivots.len() as u32,
+            additions: self.additions,
+        };
+        let free = self.free.len() as u32;
+        bits::wipe(self.words);
+        let sides = &mut *self.sides;
+        let m = sides.len();
+        if clashes(sides, &uses) {
+            wipe(sides, m);
+            return Err(Unfound::NoCodeword(report));
+        }
+        if free > 0 {
+            wipe(sides, m);
+            return Err(Unfound::Several(report, free));
+        }
+        Ok(Found {
+            report,
+            rows: places(&uses, m),
+        })
+    }
+}
 
 // A search in memory of just the size of the code.
 fn run<S: Symbol, C: Code, P: Policy>(
     code: &C,
     policy: &mut P,
-    table: &[S],
-    received: &[bool; 512],
+    heard: &Heard<'_, S>,
     words: &mut [u64],
     sides: &mut [S],
 ) -> Result<Found, Unfound>
-    requires wide { length table.now ≡ (C.Rows.matrix code.now).width }
+    requires wide { length heard.now.table.now ≡ (C.Rows.matrix code.now).width }
     requires high { length sides.old ≡ height (C.Rows.matrix code.now) }
     requires within { length words.old ≡ 8 * length sides.old }
-    ensures { Run S.Symbol.kind P.Policy.choice (C.Rows.matrix code.now) received.now table.now policy.old policy.new words.new sides.new result }
+    ensures { Run S.Symbol.kind P.Policy.choice (C.Rows.matrix code.now) heard.now.received.now heard.now.table.now policy.old policy.new words.new sides.new result }
 {
-    let mut work = load(code, table, received, words, sides);
-    eliminate(words, sides, &mut work, code, policy);
-    bits::wipe(words);
-    let report = Report {
-        pivots: work.pivots.len as u32,
-        additions: work.additions,
-    };
-    if clashes(sides, &work.uses) {
-        wipe(sides, sides.len());
-        return Err(Unfound::NoCodeword(report));
-    }
-    if work.free.len > 0 {
-        wipe(sides, sides.len());
-        return Err(Unfound::Several(report, work.free.len as u32));
-    }
-    Ok(Found {
-        report,
-        rows: places(&work.uses, sides.len()),
-    })
+    let mut search = heard.load(code, words, sides);
+    search.solve(code, policy)
 }
 
 // Searches the codewords of a code that agree with a table at the places received, with a policy, in working memory of
@@ -73,10 +94,9 @@ pub fn look<S: Symbol, C: Code, P: Policy>(
     run(
         code,
         policy,
-        table,
-        received,
-        &mut words[0..8 * m],
-        &mut sides[0..m],
+        &Heard { table, received },
+        &mut words[..8 * m],
+        &mut sides[..m],
     )
 }
 
@@ -85,9 +105,9 @@ fn fill<S: Symbol>(table: &mut [S], received: &[bool; 512], found: &Found, sides
     requires { length table.old ≤ 512 }
     ensures { table.new ≡ read_out S.Symbol.kind found.now received.now sides.now table.old }
 {
-    for c in 0..table.len() {
+    for (c, place) in table.iter_mut().enumerate() {
         if !received[c] {
-            table[c] = found.symbol(sides, c);
+            *place = found.symbol(sides, c);
         }
     }
 }

@@ -29,7 +29,7 @@ loop-r-preserved g c =
     let us = shown c.args.uses.now.unused in
     below_more (λ q. (has us q && not (K.is_zero (get_or ss q K.zero))) ≡ false) c.loop-r.r c.loop-r.invariant
     (elim c.else-has.branch [
-      | else-has-via-then-has+else-not-is_zero w ↦ and_right _ _ (ap not (ap K.is_zero (sym (get_or_read ss c.loop-r.r w.index-sides-r.result (omega arith) w.index-sides-r.is K.zero)) ∙ sym w.if-not-is_zero.ensures))
+      | else-has-via-then-has+else-not-is_zero w ↦ and_right _ _ (ap not (ap K.is_zero (sym (get_or_read ss c.loop-r.r c.index-sides-r.result (omega arith) c.index-sides-r.is K.zero)) ∙ sym w.if-not-is_zero.ensures))
       | else-has-via-else-has w ↦ and_left _ _ (sym w.if-has.ensures)
     ])
 

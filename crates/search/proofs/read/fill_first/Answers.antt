@@ -1,13 +1,11 @@
-use Rattle.std.proofs.Common.{refl, arith}
-use Rattle.search.proofs.Wiped.{wiping_none, wiping_more, wiping_all}
+use Rattle.std.proofs.Common.{◌∙◌, arith}
+use Rattle.std.proofs.lemmas.List.{length-take-le}
+use Rattle.search.proofs.Wiped.{wiped_front}
 use Rattle.search.proofs.read.fill_first.Goals as goal
 
-pub loop-i-init : goal.loop-i-init
-loop-i-init g c = wiping_none c.args.z c.args.sides.now
-
-pub loop-i-preserved : goal.loop-i-preserved
-loop-i-preserved g c =
-    wiping_more c.args.z c.args.sides.now c.loop-i.sides c.loop-i.i c.loop-i.invariant (omega (arith, c.min-i-end.ensures, c.loop-i.invariant.long)) c.args.z refl
-
 pub returns : goal.returns
-returns g c = wiping_all c.args.z c.args.sides.now c.loop-i.sides c.loop-i.i c.args.m c.loop-i.invariant (omega (arith, c.min-i-end.ensures))
+returns g c =
+    let k = c.min-k.result in
+    let xs = c.args.sides.now in
+    wiped_front c.args.z c.args.m k xs c.loop-side.side-items c.min-k.ensures (c.loop-side.auto.side-items ∙ length-take-le k xs (omega (arith, c.min-k.ensures)))
+    (λ j h. c.loop-side.invariant j (omega (arith, c.loop-side.auto.side-items)))

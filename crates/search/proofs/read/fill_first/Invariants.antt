@@ -1,5 +1,5 @@
-use Rattle.search.proofs.Wiped.{Wiping}
+use Rattle.std.proofs.Common.{◌≡◌, ℕ, ◌<◌, get_or}
 use Rattle.search.proofs.read.fill_first.Given as goal
 
-abbrev pub invariant-loop-i : goal.invariant-loop-i
-invariant-loop-i g l = Wiping l.z l.initial.sides l.sides l.i
+abbrev pub invariant-loop-side : goal.invariant-loop-side
+invariant-loop-side g l = (k : ℕ) → k < l.side-index → get_or l.side-items k l.z ≡ l.z

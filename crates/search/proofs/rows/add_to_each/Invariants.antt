@@ -1,11 +1,7 @@
-use Rattle.method.specs.Sets.{count}
 use Rattle.policies.specs.Shown.{shown}
 use Rattle.search.proofs.Added.{Adding}
 use Rattle.search.proofs.rows.add_to_each.Given as goal
 
 abbrev pub invariant-loop-q : goal.invariant-loop-q
 invariant-loop-q g l =
-    Adding g.S.Symbol.kind.sum (shown l.others) (shown l.left) l.line l.side l.initial.words l.words l.initial.sides l.sides l.count
-
-abbrev pub decreases-loop-q : goal.decreases-loop-q
-decreases-loop-q g l = count (shown l.left)
+    Adding g.S.Symbol.kind.sum (shown l.others) (shown l.q-iterator.left) l.line l.side l.initial.words l.words l.initial.sides l.sides l.count

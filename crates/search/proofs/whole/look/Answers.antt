@@ -1,4 +1,4 @@
-use Rattle.std.proofs.Common.{◌≡◌, ◌-◌, ◌*◌, ◌≤◌, length, sym, ap, ◌∙◌, arith}
+use Rattle.std.proofs.Common.{◌≡◌, ◌*◌, sym, ap, ◌∙◌, arith}
 use Rattle.std.proofs.lemmas.List.{length-take-le}
 use Rattle.codes.specs.Matrix.{height}
 use Rattle.search.proofs.Memory.{looked}
@@ -13,8 +13,5 @@ returns g c =
     let ss = c.args.sides.now in
     let rows : m ≡ height k = ap (λ s. s.rows) c.shape-shape.ensures in
     let columns = ap (λ s. s.columns) c.shape-shape.ensures in
-    let zw : 8 * m - 0 ≡ 8 * height k = omega (arith, rows) in
-    let zm : m - 0 ≡ height k = omega (arith, rows) in
-    let a : m - 0 ≤ length ss = omega arith in
     looked K g.P.Policy.choice k c.args.received.now c.args.table.now c.args.policy.now c.run.new.policy ws c.run.new.words ss c.run.new.sides
-    (8 * m - 0) (m - 0) c.run.result (sym columns ∙ c.if-shape-table.false) (omega (arith, rows)) (omega (arith, rows)) zw zm (c.run.auto.sides ∙ length-take-le (m - 0) ss a) c.run.ensures
+    (8 * m) m c.run.result (sym columns ∙ c.if-shape-table.false) (omega (arith, rows)) (omega (arith, rows)) (ap (λ j. 8 * j) rows) rows (c.run.auto.sides ∙ length-take-le m ss (omega arith)) c.run.ensures

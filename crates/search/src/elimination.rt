@@ -1,0 +1,27 @@
+// An elimination under way: the rows in the caller's memory, and what is kept beside them.
+ghost use Rattle.std.specs.Prelude.{◌≡◌, ℕ, ◌+◌, ◌*◌, ◌<◌, ◌≤◌, length, slice_index};
+ghost use Rattle.method.specs.Sets.{count};
+ghost use Rattle.policies.specs.Shown.{shown};
+
+use crate::tally::Tally;
+use crate::uses::Uses;
+use arrayvec::ArrayVec;
+use policies::Columns;
+
+// Each active column may still become a pivot.
+#[derive(Drop)]
+pub struct Elimination<'m, S> {
+    pub words: &'m mut [u64],
+    pub sides: &'m mut [S],
+    pub active: Columns,
+    pub uses: Uses,
+    pub tally: Tally,
+    pub pivots: ArrayVec<u16, 512>,
+    pub free: ArrayVec<u16, 512>,
+    pub additions: u32,
+    ghost high: { uses.unused.width ≡ length sides.now },
+    ghost few: { length sides.now ≤ 256 },
+    ghost within: { 8 * length sides.now ≤ length words.now },
+    ghost room: { length pivots.items + count (shown active) ≤ 512 },
+    ghost low: { (i : ℕ) → i < length pivots.items → slice_index pivots.items i < active.width },
+}
