@@ -1,10 +1,12 @@
 -- What a walk over a set's words finds.
 use Rattle.std.proofs.Common.{◌≡◌, ℕ, ◌+◌, ◌-◌, ◌*◌, ◌/◌, ◌%◌, ◌^◌, ◌<◌, ◌≤◌, Bool, true, false, ◌&&◌, leb, ◌⊎◌, List, length, get_or, Some, None, Option, sym, refl, ap, ◌∙◌, subst, ap₂, inl, inr, ⊎_elim, div-one, arith}
 use lib.Count.{count_trailing_zeros}
-use Rattle.std.proofs.lemmas.Bool.{cases_lt, cases_eq, both_ways, eq-eqb, ne_eqb, le-leb, lt-leb, and_from, and_left, and_right}
+use Rattle.std.proofs.lemmas.Bool.{cases_lt, cases_eq, both_ways, false≢true, eq-eqb, ne_eqb, le-leb, lt-leb, and_from, and_left, and_right}
+use Rattle.std.specs.Prelude.{not, is_some}
+use Rattle.std.specs.Bool.{then_some}
 use Rattle.bits.specs.Sets.{bit, differ, holds, Least, Alone, Flipped, from_on}
 use Rattle.bits.proofs.Word.{bit_shifted, bit_high, bit_zero, lowest_set, lowest_below}
-use Rattle.bits.proofs.Held.{differ_none, holds_past}
+use Rattle.bits.proofs.Held.{differ_none}
 
 -- tests that agree have one least number
 pub least_like : (p q : ℕ → Bool) → ((c : ℕ) → p c ≡ q c) → (r : Option ℕ) → Least q r → Least p r
@@ -38,9 +40,8 @@ pub clear_words : (ws : List ℕ) (i j : ℕ) → ((k : ℕ) → i ≤ k → k <
 clear_words ws i j zero c l h = ap (λ w. bit w (c % 64)) (zero (c / 64) (omega arith) (omega arith)) ∙ bit_zero (c % 64)
 
 -- all are 0 from word i on
-pub least_none : (ws : List ℕ) (i j : ℕ) → ((k : ℕ) → i ≤ k → k < j → get_or ws k 0 ≡ 0) → length ws ≤ j → Least (from_on (64 * i) (holds ws)) None
-least_none ws i j zero h c =
-    not_asked (holds ws) (64 * i) c (λ l. ⊎_elim (λ (b : c < 64 * j). clear_words ws i j zero c l b) (λ (b : 64 * j ≤ c). holds_past ws c (omega arith)) (cases_lt c (64 * j)))
+pub least_none : (ws : List ℕ) (i : ℕ) → ((k : ℕ) → i ≤ k → get_or ws k 0 ≡ 0) → Least (from_on (64 * i) (holds ws)) None
+least_none ws i zero c = not_asked (holds ws) (64 * i) c (λ l. ap (λ w. bit w (c % 64)) (zero (c / 64) (omega arith)) ∙ bit_zero (c % 64))
 
 -- from a number on: the rest of its word, shifted down
 module _ (ws : List ℕ) (low rest : ℕ) (is : rest ≡ get_or ws (low / 64) 0 / 2 ^ (low % 64)) where
@@ -74,12 +75,12 @@ module _ (ws : List ℕ) (low rest : ℕ) (is : rest ≡ get_or ws (low / 64) 0 
     )
 
 -- the lowest bit of word i, from its first bit on
-pub least_word : (ws : List ℕ) (i : ℕ) → 0 < get_or ws i 0 → get_or ws i 0 < 2 ^ 64 → Least (from_on (64 * i) (holds ws)) (Some (64 * i + count_trailing_zeros 64 (get_or ws i 0)))
-least_word ws i some fits =
+pub least_word : (ws : List ℕ) (i w : ℕ) → w ≡ get_or ws i 0 → 0 < w → get_or ws i 0 < 2 ^ 64 → Least (from_on (64 * i) (holds ws)) (Some (64 * i + count_trailing_zeros 64 w))
+least_word ws i w is some fits =
     let q : 64 * i / 64 ≡ i = omega arith in
     let r : 64 * i % 64 ≡ 0 = omega arith in
-    let is : get_or ws (64 * i / 64) 0 / 2 ^ (64 * i % 64) ≡ get_or ws i 0 = ap₂ (λ a b. get_or ws a 0 / 2 ^ b) q r ∙ div-one (get_or ws i 0) in
-    least_rest ws (64 * i) (get_or ws i 0) (sym is) some fits (subst (λ a. get_or ws a 0 < 2 ^ 64) (sym q) fits)
+    let rest : get_or ws (64 * i / 64) 0 / 2 ^ (64 * i % 64) ≡ w = ap₂ (λ a b. get_or ws a 0 / 2 ^ b) q r ∙ div-one (get_or ws i 0) ∙ sym is in
+    least_rest ws (64 * i) w (sym rest) some (rw is fits) (subst (λ a. get_or ws a 0 < 2 ^ 64) (sym q) fits)
 
 -- c with c taken out leaves d
 module _ (xs ys : List ℕ) (c d : ℕ) (within : c / 64 < length xs) (flipped : Flipped c xs ys) (at_c : holds xs c ≡ true) (at_d : holds ys d ≡ true) where
@@ -89,8 +90,20 @@ module _ (xs ys : List ℕ) (c d : ℕ) (within : c / 64 < length xs) (flipped :
   also_d : holds xs d ≡ true
   also_d = sym (differ_none (holds xs d)) ∙ ap (differ (holds xs d)) (sym (ne_eqb d c apart)) ∙ sym (flipped.within within d) ∙ at_d
 
-  pub two_held : Alone (holds xs) None
+  two_held : Alone (holds xs) None
   two_held k h =
       ⊎_elim (λ (e : k ≡ c). (d, also_d, λ f. apart (f ∙ e)))
       (λ (n : k ≡ c → ⊥). (c, at_c, λ e. n (sym e)))
       (cases_eq k c)
+
+-- c taken out: it is alone where nothing is left
+pub alone_left : (xs ys : List ℕ) (c : ℕ) → c / 64 < length xs → Flipped c xs ys → holds xs c ≡ true → (o : Option ℕ) → Least (holds ys) o → (b : Bool) → is_some o ≡ not b → Alone (holds xs) (then_some b c)
+alone_left xs ys c within flipped at_c (Some d) l false e = two_held xs ys c d within flipped at_c l.0
+alone_left xs ys c within flipped at_c (Some d) l true e = absurd (false≢true (sym e))
+alone_left xs ys c within flipped at_c None l false e = absurd (false≢true e)
+alone_left xs ys c within flipped at_c None l true e = (
+  at_c,
+  λ d h. ⊎_elim (λ (q : d ≡ c). q) (λ (n : d ≡ c → ⊥).
+      absurd (both_ways (holds ys d) (l d) (flipped.within within d ∙ ap (differ (holds xs d)) (ne_eqb d c n) ∙ differ_none (holds xs d) ∙ h)))
+      (cases_eq d c),
+)

@@ -1,11 +1,12 @@
 -- What words hold: past their end, after a number is put in or turned, and of two sets word by word.
-use Rattle.std.proofs.Common.{◌≡◌, ℕ, ◌/◌, ◌%◌, ◌^◌, ◌<◌, ◌≤◌, Bool, true, false, ◌&&◌, ◌||◌, eqb, ◌⊎◌, List, length, get_or, set, sym, refl, ap, ◌∙◌, inl, inr, ⊎_elim, arith, get_or-set_other, get_or-set_same}
+use Rattle.std.proofs.Common.{◌≡◌, ℕ, ◌*◌, ◌/◌, ◌%◌, ◌^◌, ◌<◌, ◌≤◌, Bool, true, false, ◌&&◌, ◌||◌, eqb, ◌⊎◌, List, length, get_or, set, sym, refl, ap, ◌∙◌, inl, inr, ⊎_elim, arith, get_or-set_other, get_or-set_same}
 use lib.Bits.{bit_xor, bit_and, bit_or}
 use lib.Lanes.{zip2}
 use Rattle.std.proofs.lemmas.Simd.{get_or-zip2, length-zip2}
 use Rattle.std.proofs.lemmas.List.{get_or_past}
+use Rattle.std.proofs.lemmas.Nat.{pow_below}
 use Rattle.std.proofs.lemmas.Bool.{cases_eq, cases_lt, both_ways, eq-eqb, ne_eqb}
-use Rattle.bits.specs.Sets.{bit, holds, differ, xors, ands}
+use Rattle.bits.specs.Sets.{bit, holds, differ, xors, ands, Put, Flipped}
 use Rattle.bits.proofs.Word.{bit_of_xor, bit_of_and, bit_of_or, bit_one, bit_zero}
 
 pub differ_none : (b : Bool) → differ b false ≡ b
@@ -44,8 +45,7 @@ module _ (ws : List ℕ) (c d : ℕ) (within : c / 64 < length ws) where
       rw (e, get_or-set_same) (bit_of_or w (2 ^ (c % 64)) (d % 64) ∙ ap (λ b. bit w (d % 64) || b) (bit_one (c % 64) (d % 64) ∙ same_place c d e))
   put_cases (inr n) = rw get_or-set_other (sym (ap (λ b. holds ws d || b) (other_word c d n) ∙ or_none (holds ws d)))
 
-  -- after `words[c / 64] |= 1 << (c % 64)`
-  pub holds_put : holds (set ws (c / 64) (bit_or (get_or ws (c / 64) 0) (2 ^ (c % 64)))) d ≡ (holds ws d || eqb d c)
+  holds_put : holds (set ws (c / 64) (bit_or (get_or ws (c / 64) 0) (2 ^ (c % 64)))) d ≡ (holds ws d || eqb d c)
   holds_put = put_cases (cases_eq (d / 64) (c / 64))
 
   flip_cases : (d / 64 ≡ c / 64) ⊎ (d / 64 ≡ c / 64 → ⊥) → holds (set ws (c / 64) (bit_xor (get_or ws (c / 64) 0) (2 ^ (c % 64)))) d ≡ differ (holds ws d) (eqb d c)
@@ -54,9 +54,19 @@ module _ (ws : List ℕ) (c d : ℕ) (within : c / 64 < length ws) where
       rw (e, get_or-set_same) (bit_of_xor w (2 ^ (c % 64)) (d % 64) ∙ ap (λ b. differ (bit w (d % 64)) b) (bit_one (c % 64) (d % 64) ∙ same_place c d e))
   flip_cases (inr n) = rw get_or-set_other (sym (ap (λ b. differ (holds ws d) b) (other_word c d n) ∙ differ_none (holds ws d)))
 
-  -- after `words[c / 64] ^= 1 << (c % 64)`
-  pub holds_flipped : holds (set ws (c / 64) (bit_xor (get_or ws (c / 64) 0) (2 ^ (c % 64)))) d ≡ differ (holds ws d) (eqb d c)
+  holds_flipped : holds (set ws (c / 64) (bit_xor (get_or ws (c / 64) 0) (2 ^ (c % 64)))) d ≡ differ (holds ws d) (eqb d c)
   holds_flipped = flip_cases (cases_eq (d / 64) (c / 64))
+
+-- after `words[c / 64] |= 1 << (c % 64)` and `words[c / 64] ^= 1 << (c % 64)`, where there is such a word
+module _ (ws : List ℕ) (c : ℕ) (h : c / 64 < length ws) where
+  one : 1 * 2 ^ (c % 64) % 2 ^ 64 ≡ 2 ^ (c % 64)
+  one = omega (arith, pow_below (c % 64) 64 (omega arith))
+
+  pub put_word : Put c ws (set ws (c / 64) (bit_or (get_or ws (c / 64) 0) (1 * 2 ^ (c % 64) % 2 ^ 64)))
+  put_word = rw one (record { within = λ l d. holds_put ws c d l; past = λ l. absurd (omega arith) })
+
+  pub flipped_word : Flipped c ws (set ws (c / 64) (bit_xor (get_or ws (c / 64) 0) (1 * 2 ^ (c % 64) % 2 ^ 64)))
+  flipped_word = rw one (record { within = λ l d. holds_flipped ws c d l; past = λ l. absurd (omega arith) })
 
 -- of two sets of as many words
 module _ (xs ys : List ℕ) (same : length xs ≡ length ys) (c : ℕ) where

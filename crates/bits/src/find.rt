@@ -1,21 +1,17 @@
 // What a set holds: its least number, the next one, the only one, and how many there are.
-ghost use Rattle.std.specs.Prelude.{◌≡◌, ℕ, ◌*◌, ◌/◌, ◌%◌, ◌^◌, ◌<◌, ◌≤◌, slice_index};
+ghost use Rattle.std.specs.Prelude.{◌≡◌, ℕ, ◌*◌, ◌/◌, ◌%◌, ◌^◌, ◌<◌, ◌≤◌, slice_index, IfNone, IfSome};
 ghost use Rattle.bits.specs.Sets.{holds, members, Least, Alone, from_on};
 
 use crate::set::{Set, flip};
 
-// The first word from i on that is not 0; 8 where there is none.
-fn first_word(set: &Set, i: usize) -> usize
-    ensures before { (k : ℕ) → i ≤ k → k < result → slice_index set.now k ≡ 0 }
-    ensures found { result < 8 → (i ≤ result) × (0 < slice_index set.now result) }
-    ensures end { result ≤ 8 }
+// The first word from i on that is not 0, with its place.
+fn first_word(set: &Set, i: usize) -> Option<(usize, &u64)>
+    ensures none { IfNone result ((k : ℕ) → i ≤ k → slice_index set.now k ≡ 0) }
+    ensures before { IfSome result (λ f. (k : ℕ) → i ≤ k → k < f.0 → slice_index set.now k ≡ 0) }
+    ensures found { IfSome result (λ f. (i ≤ f.0) × (f.1.now ≡ slice_index set.now f.0) × (0 < f.1.now)) }
+    ensures end { IfSome result (λ f. f.0 < 8) }
 {
-    for j in i..8 {
-        if set[j] != 0 {
-            return j;
-        }
-    }
-    8
+    set.iter().enumerate().skip(i).find(|(_, word)| **word != 0)
 }
 
 // What is left of a number's word from the number on.
@@ -30,12 +26,8 @@ fn rest_at(set: &Set, c: usize) -> u64
 fn least_from(set: &Set, i: usize) -> Option<usize>
     ensures { Least (from_on (64 * i) (holds set.now)) result }
 {
-    let j = first_word(set, i);
-    if j < set.len() {
-        Some(64 * j + set[j].trailing_zeros() as usize)
-    } else {
-        None
-    }
+    let (j, word) = first_word(set, i)?;
+    Some(64 * j + word.trailing_zeros() as usize)
 }
 
 // The least number that the set holds.
@@ -62,17 +54,10 @@ pub fn next(set: &Set, low: usize) -> Option<usize>
 pub fn alone(set: &Set) -> Option<usize>
     ensures { Alone (holds set.now) result }
 {
-    match least(set) {
-        None => None,
-        Some(c) => {
-            let mut rest = *set;
-            flip(&mut rest, c);
-            match least(&rest) {
-                None => Some(c),
-                Some(_) => None,
-            }
-        }
-    }
+    let c = least(set)?;
+    let mut rest = *set;
+    flip(&mut rest, c);
+    least(&rest).is_none().then_some(c)
 }
 
 // How many numbers the set holds.

@@ -1,5 +1,5 @@
 // Sets: what they hold, putting in and taking out, sums and what is shared.
-ghost use Rattle.std.specs.Prelude.{◌≡◌, ℕ, ◌/◌, ◌%◌, ◌^◌, ◌<◌, length, set as with_word, bit_or, bit_xor, slice_index};
+ghost use Rattle.std.specs.Prelude.{◌≡◌, ℕ, ◌/◌, ◌%◌, ◌^◌, ◌<◌};
 ghost use Rattle.bits.specs.Sets.{bit, holds, xors, ands, Put, Flipped};
 
 use std::simd::prelude::*;
@@ -19,7 +19,7 @@ pub(crate) fn bit_at(word: u64, k: usize) -> bool
 pub fn has(words: &[u64], c: usize) -> bool
     ensures { result ≡ holds words.now c }
 {
-    c / 64 < words.len() && bit_at(words[c / 64], c % 64)
+    words.get(c / 64).is_some_and(|word| bit_at(*word, c % 64))
 }
 
 // Puts c in; nothing past the end of the words.
@@ -27,15 +27,8 @@ pub fn put(words: &mut [u64], c: usize)
     ensures { Put c words.old words.new }
 {
     if c / 64 < words.len() {
-        put_bit(words, c);
+        words[c / 64] |= 1 << (c % 64);
     }
-}
-
-fn put_bit(words: &mut [u64], c: usize)
-    requires { c / 64 < length words.old }
-    ensures { words.new ≡ with_word words.old (c / 64) (bit_or (slice_index words.old (c / 64)) (2 ^ (c % 64))) }
-{
-    words[c / 64] |= 1 << (c % 64);
 }
 
 // Takes c out where it is in, and puts it in where it is not; nothing past the end of the words.
@@ -43,15 +36,8 @@ pub fn flip(words: &mut [u64], c: usize)
     ensures { Flipped c words.old words.new }
 {
     if c / 64 < words.len() {
-        flip_bit(words, c);
+        words[c / 64] ^= 1 << (c % 64);
     }
-}
-
-fn flip_bit(words: &mut [u64], c: usize)
-    requires { c / 64 < length words.old }
-    ensures { words.new ≡ with_word words.old (c / 64) (bit_xor (slice_index words.old (c / 64)) (2 ^ (c % 64))) }
-{
-    words[c / 64] ^= 1 << (c % 64);
 }
 
 // Adds a set to another: what both hold goes out.

@@ -1,10 +1,13 @@
-use Rattle.bits.proofs.Found.{two_held}
+use Rattle.std.proofs.Common.{sym, subst}
+use Rattle.bits.specs.Sets.{holds, Alone}
+use Rattle.bits.proofs.Found.{alone_left}
 use Rattle.bits.proofs.Held.{holds_within}
 use Rattle.bits.proofs.find.alone.Goals as goal
 
-pub returns-in-Some-least : goal.returns-in-Some-least
-returns-in-Some-least c =
+pub returns : goal.returns
+returns c =
     let ws = c.args.set.now in
-    let x = c.in-Some.c in
-    let held = c.in-Some.ensures.0 in
-    two_held ws c.flip.new.words x c.in-Some-least.field-0 (holds_within ws x held) c.flip.ensures held c.in-Some-least.ensures.0
+    let x = c.in_ok-c.c in
+    let held = c.in_ok-c.ensures.0 in
+    subst (Alone (holds ws)) (sym c.then_some.ensures)
+    (alone_left ws c.flip.new.words x (holds_within ws x held) c.flip.ensures held c.least-2.result c.least-2.ensures c.is_none.result c.is_none.ensures)

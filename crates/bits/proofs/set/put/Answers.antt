@@ -1,10 +1,5 @@
-use Rattle.std.proofs.Common.{ℕ, List, ap, ◌∙◌, arith}
-use Rattle.bits.specs.Sets.{holds}
-use Rattle.bits.proofs.Held.{holds_put}
+use Rattle.bits.proofs.Held.{put_word}
 use Rattle.bits.proofs.set.put.Goals as goal
 
 pub returns-then-c-words : goal.returns-then-c-words
-returns-then-c-words c = record {
-  within = λ h d. ap (λ (ws : List ℕ). holds ws d) c.put_bit.ensures ∙ holds_put c.args.words.now c.args.c d h;
-  past = λ h. absurd (omega arith);
-}
+returns-then-c-words c = put_word c.args.words.now c.args.c c.if-c-words.true
