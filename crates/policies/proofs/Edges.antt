@@ -9,7 +9,7 @@ use Rattle.method.specs.Sets.{has, marked}
 use Rattle.method.specs.Choices.{pair_of, with_pair, joins}
 use Rattle.method.proofs.Marks.{member_marked, marked_lawful}
 use Rattle.policies.specs.Relations.{Linked}
-use Rattle.policies.proofs.Walks.{some_none}
+use Rattle.std.proofs.lemmas.Option.{none-some}
 
 -- a listed number that is marked
 marked_from : (a : List Bool) (row : List ℕ) (z : ℕ) → member z (marked a row) ≡ true → (member z row ≡ true) × (has a z ≡ true)
@@ -35,10 +35,10 @@ apart_ne : (x y : ℕ) (xs : List ℕ) → member x xs ≡ false → member y xs
 apart_ne x y xs h i e = both_ways (member y xs) (subst (λ z. member z xs ≡ false) e h) i
 
 pair_is : (xs : List ℕ) (x y : ℕ) → Some (x, y) ≡ pair_of xs → xs ≡ x ∷ (y ∷ [])
-pair_is [] x y e = absurd (some_none _ e)
-pair_is (p ∷ []) x y e = absurd (some_none _ e)
+pair_is [] x y e = absurd (none-some _ (sym e))
+pair_is (p ∷ []) x y e = absurd (none-some _ (sym e))
 pair_is (p ∷ (q ∷ [])) x y e = let z : ◌≡◌ {A = ℕ × ℕ} (p, q) (x, y) = cc in ap (λ (t : ℕ × ℕ). t.0 ∷ (t.1 ∷ [])) z
-pair_is (p ∷ (q ∷ (r ∷ rs))) x y e = absurd (some_none _ e)
+pair_is (p ∷ (q ∷ (r ∷ rs))) x y e = absurd (none-some _ (sym e))
 
 -- different numbers, x and y among them and no other, are the pair of x and y
 module _ (x y : ℕ) (n : x ≢ y) where
@@ -114,7 +114,7 @@ module _ (k : Matrix) (ok : Lawful k) (a u : List Bool) where
         go : (r ≡ n) ⊎ (r ≡ n → ⊥) → (b : Bool) → has u n ≡ b → (o : Option (ℕ × ℕ)) → o ≡ pair_of (marked a (row_at k n)) → AllByRecursion P (with_pair b o (joins k a u n))
             → (r < n → AllByRecursion P (joins k a u n) → P e) → P e
         go (inl s) false f o w h ih = absurd (both_ways (has u n) f (ap (has u) (sym s) ∙ free))
-        go (inl s) true f None w h ih = absurd (some_none e (q ∙ ap (λ z. pair_of (marked a (row_at k z))) s ∙ sym w))
+        go (inl s) true f None w h ih = absurd (none-some e (w ∙ sym (q ∙ ap (λ z. pair_of (marked a (row_at k z))) s)))
         go (inl s) true f (Some d) w h ih =
             let same : ◌≡◌ {A = Option (ℕ × ℕ)} (Some d) (Some e) = w ∙ sym (q ∙ ap (λ z. pair_of (marked a (row_at k z))) s) in
             let z : d ≡ e = cc in subst P z h.0

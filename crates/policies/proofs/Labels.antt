@@ -13,7 +13,7 @@ use Rattle.policies.specs.Numbers.{at}
 use Rattle.policies.specs.Forests.{Labelled, joined}
 use Rattle.policies.specs.Drawings.{some_of}
 use Rattle.policies.proofs.Trees.{turned, unturned}
-use Rattle.policies.proofs.Walks.{some_none}
+use Rattle.std.proofs.lemmas.Option.{none-some}
 
 pub merged_hit : (x y l : ℕ) → l ≡ max x y → merged x y l ≡ min x y
 merged_hit x y l e = turned (max x y) (min x y) l e
@@ -70,12 +70,12 @@ marked_active a (c ∷ cs) = go (has a c) refl (marked_active a cs)
     go false e ih = ih
 
 pair_all : (P : ℕ → Type 0) (xs : List ℕ) (x y : ℕ) → Some (x, y) ≡ pair_of xs → AllByRecursion P xs → P x × P y
-pair_all P [] x y e h = absurd (some_none _ e)
-pair_all P (p ∷ []) x y e h = absurd (some_none _ e)
+pair_all P [] x y e h = absurd (none-some _ (sym e))
+pair_all P (p ∷ []) x y e h = absurd (none-some _ (sym e))
 pair_all P (p ∷ (q ∷ [])) x y e h =
     let z : ◌≡◌ {A = ℕ × ℕ} (p, q) (x, y) = cc in
     (subst P (ap (λ t. t.0) z) h.0, subst P (ap (λ t. t.1) z) h.1.0)
-pair_all P (p ∷ (q ∷ (r ∷ rs))) x y e h = absurd (some_none _ e)
+pair_all P (p ∷ (q ∷ (r ∷ rs))) x y e h = absurd (none-some _ (sym e))
 
 pub pair_below : (k : Matrix) (a : List Bool) (r x y : ℕ) → Some (x, y) ≡ pair_of (marked a (row_at k r)) → (x < length a) × (y < length a)
 pair_below k a r x y e =

@@ -1,10 +1,8 @@
 pub mod Marks  -- a number put into a set, or taken out; the lowest one
 pub mod Taking  -- the numbers of a set taken out one after another
 pub mod Tops  -- the heaviest active column below n
-pub mod Walks  -- a row read place by place
 pub mod Weights  -- the weights of the columns, counted row by row and column by column
 pub mod Trees  -- forests: a column pointed further up, and two roots joined
-pub mod Scans  -- the active columns of a row, read place by place up to a third
 pub mod Labels  -- the labels that pairs give to columns, and the pairs that rows give
 pub mod Sizes  -- the active columns of each label, counted as the forest is flattened
 pub mod Edges  -- the pairs that rows give are the edges

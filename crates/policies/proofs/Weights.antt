@@ -1,13 +1,11 @@
 -- The weights of the columns, counted row by row and column by column.
-use Rattle.std.proofs.Common.{◌≡◌, ℕ, zero, suc, ◌+◌, ◌<◌, ◌≤◌, Bool, true, false, ◌&&◌, ◌||◌, eqb, List, [], ◌∷◌, length, drop, set, Some, None, sym, refl, ap, ◌∙◌, subst, ⊎_elim, add-one, arith, get_or-set_other, get_or-set_same}
-use Rattle.std.specs.List.{slice_get}
+use Rattle.std.proofs.Common.{◌≡◌, ℕ, zero, suc, ◌+◌, ◌<◌, ◌≤◌, Bool, true, false, ◌&&◌, ◌||◌, eqb, List, [], ◌∷◌, length, set, sym, refl, ap, ◌∙◌, subst, ⊎_elim, add-one, arith, length-set, get_or-set_other, get_or-set_same}
 use Rattle.std.proofs.lemmas.Bool.{cases_eq, eq-eqb, ne_eqb, eqb-true}
 use Rattle.codes.specs.Matrix.{Matrix, member, holds, Apart}
 use Rattle.method.specs.Sets.{has, bump}
 use Rattle.method.specs.Choices.{count_to, burdens}
 use Rattle.method.proofs.Counts.{num, occ, occ_none}
 use Rattle.policies.specs.Numbers.{at}
-use Rattle.policies.proofs.Walks.{rest_some, rest_none}
 
 pub bump_num : (b : Bool) (n : ℕ) → bump b n ≡ n + num b
 bump_num true n = omega arith
@@ -33,12 +31,11 @@ at_raised s x c h =
     (λ (n : x ≡ c → ⊥). get_or-set_other s x c (at s x + 1) 0 (λ e. n (sym e)) ∙ sym (ap (λ b. bump b (at s c)) (ne_eqb x c n)))
     (cases_eq x c)
 
--- one more column of a row counted, and its last
-pub tally_more : (row s : List ℕ) (i x : ℕ) → Some x ≡ slice_get row i → x < length s → (c : ℕ) → at (set s x (at s x + 1)) c + occ c (drop (i + 1) row) ≡ at s c + occ c (drop i row)
-tally_more row s i x e l c = omega (arith, at_raised s x c l, bump_num (eqb x c) (at s c), ap (occ c) (rest_some row i x e))
-
-pub tally_end : (row : List ℕ) (i : ℕ) → None ≡ slice_get row i → (c : ℕ) → occ c (drop i row) ≡ 0
-tally_end row i e c = ap (occ c) (rest_none row i e)
+-- one more column of a row counted
+pub tally_more : (s next rest cs : List ℕ) (x : ℕ) → next ≡ set s x (at s x + 1) → length next ≡ 512 → x < 512 → rest ≡ x ∷ cs → (c : ℕ) → at next c + occ c cs ≡ at s c + occ c rest
+tally_more s next rest cs x raised long small e c =
+    let inside : x < length s = omega (arith, ap length raised, length-set s x (at s x + 1)) in
+    omega (arith, ap (λ t. at t c) raised, at_raised s x c inside, bump_num (eqb x c) (at s c), ap (occ c) e)
 
 -- different numbers are listed once or not at all
 pub occ_once : (c : ℕ) (xs : List ℕ) → Apart xs → occ c xs ≡ num (member c xs)

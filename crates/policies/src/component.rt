@@ -19,6 +19,7 @@ impl<P: Policy> Policy for Component<P> {
     ghost names = { λ k. component_names k (asking_below (P.Policy.choice k)) (λ p a u. P.Policy.names k p.below a u) };
 
     fn name<C: Code>(&mut self, code: &C, active: &Columns, unused: &Columns) -> Option<usize> {
+        // A closure in `or_else` would change the policy below, and its call tells nothing of the state after.
         match largest_joined(code, active, unused) {
             Some(c) => Some(c),
             None => self.below.name(code, active, unused),

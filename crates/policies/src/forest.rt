@@ -60,7 +60,7 @@ impl Forest {
         self.up[p.max(q)] = p.min(q) as u16;
     }
 
-    // How many active columns the set of each root has.
+    // How many active columns the set of each root has. Each column, active or not, is pointed at its root on the way, since higher ones may point at it.
     pub(crate) fn sizes(&mut self, active: &Columns) -> Numbers
         ensures { (f : ℕ → ℕ) → Labelled self.old.up f → (l : ℕ) → l < 512 → at result l ≡ size_of (shown active.now) f l }
     {

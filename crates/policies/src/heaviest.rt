@@ -17,14 +17,12 @@ fn tally<C: Code>(code: &C, r: usize, counts: &mut Numbers)
     requires { (c : ℕ) → at counts.old c ≤ 256 }
     ensures { (c : ℕ) → at counts.new c ≡ bump (holds (C.Rows.matrix code.now) r c) (at counts.old c) }
 {
-    let mut i = 0;
-    while let Some(c) = code.column(r, i) {
+    for c in code.row(r) {
         raise(counts, c);
-        i += 1;
     }
 }
 
-// How many unused rows hold each column: each row is read once.
+// How many unused rows hold each column: each row is read once. The set may be wider than the code is high, and no row past its height is asked.
 fn weigh<C: Code>(code: &C, unused: &Columns) -> Numbers
     ensures { (c : ℕ) → at result c ≡ column_weight (C.Rows.matrix code.now) (shown unused.now) c }
 {

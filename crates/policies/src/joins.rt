@@ -11,7 +11,7 @@ use crate::pairs::pair_of;
 use crate::top::top;
 use codes::Code;
 
-// The sets that rows join, where there is such a row: each row is read once.
+// The sets that rows join, where there is such a row: each row is read once, and none past the code's height.
 fn draw<C: Code>(code: &C, active: &Columns, unused: &Columns) -> Option<Forest>
     ensures { Drawn (length (shown active.now)) (joins (C.Rows.matrix code.now) (shown active.now) (shown unused.now) (height (C.Rows.matrix code.now))) result }
 {

@@ -43,12 +43,10 @@ pub(crate) fn pair_of<C: Code>(code: &C, active: &Columns, r: usize) -> Option<(
     ensures { result ≡ pair_of (marked (shown active.now) (row_at (C.Rows.matrix code.now) r)) }
 {
     let mut few = Few::Zero;
-    let mut i = 0;
-    while let Some(c) = code.column(r, i) {
+    for c in code.row(r) {
         if active.has(c) {
             few = few.with(c)?;
         }
-        i += 1;
     }
     few.pair()
 }

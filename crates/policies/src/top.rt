@@ -26,14 +26,8 @@ fn better(weights: &Numbers, best: Option<usize>, c: usize) -> Option<usize>
     ensures { result ≡ better (at weights.now) c true best }
 {
     match best {
-        None => Some(c),
-        Some(b) => {
-            if weights[b] < weights[c] {
-                Some(c)
-            } else {
-                Some(b)
-            }
-        }
+        Some(b) if weights[b] >= weights[c] => best,
+        _ => Some(c),
     }
 }
 
