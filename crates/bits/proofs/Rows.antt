@@ -1,7 +1,9 @@
 -- Rows of eight words in one list: reading one, and what a write leaves of each.
-use Rattle.std.proofs.Common.{◌≡◌, ℕ, ◌+◌, ◌-◌, ◌*◌, ◌/◌, ◌%◌, ◌<◌, ◌≤◌, ltb, ◌⊎◌, List, ◌++◌, length, get_or, take, drop, replicate, sym, ap, ◌∙◌, inl, inr, ⊎_elim, arith}
+use Rattle.std.proofs.Common.{◌≡◌, ℕ, zero, suc, ◌+◌, ◌-◌, ◌*◌, ◌/◌, ◌%◌, ◌<◌, ◌≤◌, ltb, ◌⊎◌, List, [], ◌++◌, length, get_or, take, drop, drop-drop, replicate, MatchOption, Some, None, Option, Bor, sym, refl, ap, ◌∙◌, inl, inr, ⊎_elim, arith}
 use borrow.Rule.Slice.PartMut.{put_mid}
 use lib.Lanes.{chunk, put_chunk}
+use Rattle.std.specs.Simd.{first_chunks}
+use Rattle.std.specs.Slice.{IsItemAt}
 use Rattle.std.proofs.lemmas.List.{ext_get_or, length-replicate, take-replicate, drop-replicate}
 use Rattle.std.proofs.lemmas.Simd.{length-chunk, get_or-chunk, length-put_chunk, put_chunk_is, get_or-put_chunk_below, get_or-put_chunk_at, get_or-put_chunk_above}
 use Rattle.std.proofs.lemmas.Bool.{cases_lt, lt-ltb, le-ltb, cond-true, cond-false}
@@ -40,6 +42,21 @@ module _ (ws : List ℕ) (r : ℕ) where
       let q : (512 * r + c) / 64 ≡ 8 * r + c / 64 = omega arith in
       let m : (512 * r + c) % 64 ≡ c % 64 = omega arith in
       ap (λ w. bit w (c % 64)) (get_or_row (c / 64) (omega arith) h) ∙ sym (rw (q, m))
+
+-- the rows that the words hold whole, as a list
+chunk_at : (ws : List ℕ) (n r : ℕ) → r < n → get_or (first_chunks 8 n ws) r [] ≡ chunk (8 * r) 8 ws
+chunk_at ws zero r l = absurd (omega arith)
+chunk_at ws (suc n) zero l = refl
+chunk_at ws (suc n) (suc r) l =
+    let e : 8 * suc r ≡ 8 + 8 * r = omega arith in
+    chunk_at (drop 8 ws) n r (omega arith) ∙ ap (take 8) (drop-drop (8 * r) 8 ws) ∙ sym (ap (λ k. take 8 (drop k ws)) e)
+
+pub row_found : (ws : List ℕ) (r : ℕ) (rows : List (List ℕ)) → rows ≡ first_chunks 8 (length ws / 8) ws → length rows ≡ length ws / 8
+    → (o : Option (Bor (List ℕ))) → IsItemAt rows r o → MatchOption o (row ws r ≡ replicate 8 0) (λ line. line.now ≡ row ws r)
+row_found ws r rows are many None h = row_past ws r (omega (arith, h.3, many))
+row_found ws r rows are many (Some line) h =
+    let l : r < length ws / 8 = omega (arith, h.3.0, many) in
+    h.4 (omega arith) [] ∙ ap (λ xs. get_or xs r []) are ∙ chunk_at ws (length ws / 8) r l ∙ sym (row_within ws r (omega arith))
 
 -- what writing row q leaves
 module _ (ws xs : List ℕ) (q : ℕ) (eight : length xs ≡ 8) where

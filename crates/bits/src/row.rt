@@ -1,39 +1,30 @@
 // Rows of sets in one slice: row r is words 8r to 8r + 7.
-ghost use Rattle.std.specs.Prelude.{◌≡◌, ◌+◌, ◌<◌, ◌≤◌, length, replicate, slice_index};
+ghost use Rattle.std.specs.Prelude.{◌≡◌, ◌+◌, ◌≤◌, length, replicate, MatchOption};
 ghost use Rattle.std.specs.Simd.Lanes.{put_chunk};
 ghost use Rattle.bits.specs.Sets.{holds, xors, row, put_row};
 
-use crate::set::{Set, add, bit_at};
+use crate::set::{Set, add, has};
 use std::simd::prelude::*;
+
+// Row r where the slice holds it whole.
+fn whole_row(words: &[u64], r: usize) -> Option<&Set>
+    ensures { MatchOption result (row words.now r ≡ replicate 8 0) (λ line. line.now ≡ row words.now r) }
+{
+    words.as_chunks().0.get(r)
+}
 
 // Row r; empty where the slice ends before it does.
 pub fn line_at(words: &[u64], r: usize) -> Set
     ensures { result ≡ row words.now r }
 {
-    if r < words.len() / 8 {
-        u64x8::from_slice(&words[8 * r..8 * r + 8]).to_array()
-    } else {
-        [0; 8]
-    }
-}
-
-// Word i of row r.
-fn word_at(words: &[u64], r: usize, i: usize) -> u64
-    requires { i < 8 }
-    ensures { result ≡ slice_index (row words.now r) i }
-{
-    if r < words.len() / 8 {
-        words[8 * r + i]
-    } else {
-        0
-    }
+    whole_row(words, r).copied().unwrap_or([0; 8])
 }
 
 // Whether row r holds c.
 pub fn row_has(words: &[u64], r: usize, c: usize) -> bool
     ensures { result ≡ holds (row words.now r) c }
 {
-    c < 512 && bit_at(word_at(words, r, c / 64), c % 64)
+    whole_row(words, r).is_some_and(|line| has(line, c))
 }
 
 // Writes row r; nothing where the slice ends before it does.

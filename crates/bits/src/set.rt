@@ -8,7 +8,7 @@ use std::simd::prelude::*;
 pub type Set = [u64; 8];
 
 // Whether bit k of a word is set.
-pub(crate) fn bit_at(word: u64, k: usize) -> bool
+fn bit_at(word: u64, k: usize) -> bool
     requires { k < 64 }
     ensures { result ≡ bit word k }
 {
