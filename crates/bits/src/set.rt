@@ -4,11 +4,11 @@ ghost use Rattle.bits.specs.Sets.{bit, holds, xors, ands, Put, Flipped};
 
 use std::simd::prelude::*;
 
-// A set of numbers below 512: c is in it if bit c % 64 of word c / 64 is set.
+// A set of numbers below 512, plain words as the rows in a search's memory are: c is in it if bit c % 64 of word c / 64 is set.
 pub type Set = [u64; 8];
 
 // Whether bit k of a word is set.
-fn bit_at(word: u64, k: usize) -> bool
+pub(crate) fn bit_at(word: u64, k: usize) -> bool
     requires { k < 64 }
     ensures { result ≡ bit word k }
 {
@@ -22,7 +22,7 @@ pub fn has(words: &[u64], c: usize) -> bool
     words.get(c / 64).is_some_and(|word| bit_at(*word, c % 64))
 }
 
-// Puts c in; nothing past the end of the words.
+// Puts c in; nothing past the end of the words. (`get_mut` of a slice says nothing of what the slice ends as.)
 pub fn put(words: &mut [u64], c: usize)
     ensures { Put c words.old words.new }
 {
