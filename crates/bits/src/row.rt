@@ -77,11 +77,5 @@ pub fn add_row(words: &mut [u64], to: usize, from: usize)
 pub fn wipe(words: &mut [u64])
     ensures { words.new ≡ replicate (length words.old) 0 }
 {
-    fill_with(words, 0);
-}
-
-fn fill_with(words: &mut [u64], value: u64)
-    ensures { words.new ≡ replicate (length words.old) value }
-{
-    words.fill(value);
+    words.fill(0);
 }
