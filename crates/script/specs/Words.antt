@@ -1,7 +1,7 @@
 -- The words of a line: runs of bytes between separators.
 --
 --   separates     whether a byte separates words: a space, a tab or a carriage return
---   parts         whether a byte is of a gap, or, at false, of a word
+--   in_word       whether a byte is of a word
 --   skip          the line from its first word on
 --   first_word    the first word, empty where there is none
 --   after_word    what follows the first word
@@ -10,24 +10,23 @@
 --   blank         whether a line has no word
 --   comment       whether a line begins with '#'
 --   passed_over   whether a line is a comment or blank
-use Rattle.std.specs.Prelude.{ℕ, zero, suc, Bool, true, false, not, ◌||◌, List, [], ◌∷◌, length, take, drop, ◌==◌}
-use Rattle.std.specs.List.{prefix_len}
+use Rattle.std.specs.Prelude.{ℕ, zero, suc, Bool, false, not, ◌||◌, List, [], ◌∷◌, length, take, drop, ◌==◌}
+use Rattle.std.specs.List.{position_or_len}
 
 abbrev pub separates : ℕ → Bool
 separates byte = byte == 32 || (byte == 9 || byte == 13)
 
-abbrev pub parts : Bool → ℕ → Bool
-parts true byte = separates byte
-parts false byte = not (separates byte)
+abbrev pub in_word : ℕ → Bool
+in_word byte = not (separates byte)
 
 abbrev pub skip : List ℕ → List ℕ
-skip line = drop (prefix_len (parts true) line) line
+skip line = drop (position_or_len in_word line) line
 
 abbrev pub first_word : List ℕ → List ℕ
-first_word line = take (prefix_len (parts false) (skip line)) (skip line)
+first_word line = take (position_or_len separates (skip line)) (skip line)
 
 abbrev pub after_word : List ℕ → List ℕ
-after_word line = drop (prefix_len (parts false) (skip line)) (skip line)
+after_word line = drop (position_or_len separates (skip line)) (skip line)
 
 abbrev pub past : ℕ → List ℕ → List ℕ
 past zero line = line

@@ -37,14 +37,10 @@ fn answer_write(
     }
     let mut bytes = [0; LONGEST];
     let slice = &mut bytes[0..length];
-    match write_packet(slice, block, number, cell) {
-        Ok(()) => {
-            let mut packet = [0; PACKET];
-            packet.copy_from_slice(slice);
-            Ok(packet)
-        }
-        Err(fault) => Err(fault),
-    }
+    write_packet(slice, block, number, cell)?;
+    let mut packet = [0; PACKET];
+    packet.copy_from_slice(slice);
+    Ok(packet)
 }
 
 // What a call answers.

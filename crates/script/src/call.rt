@@ -43,32 +43,21 @@ fn parse_read(heap: Global, line: &[u8]) -> Result<Option<Call>, AllocError>
     if !is_blank(rest) {
         return Ok(None);
     }
-    match from_hex(heap, hex)? {
-        Some(bytes) => Ok(Some(Call::Read(bytes))),
-        None => Ok(None),
-    }
+    Ok(from_hex(heap, hex)?.map(Call::Read))
 }
 
 // The cell of a word.
 fn parse_cell(heap: Global, word: &[u8]) -> Result<Option<[u8; CELL]>, AllocError>
     ensures { IfOk result (λ o. o ≡ cell_word word.now) }
 {
-    match from_hex(heap, word)? {
-        Some(bytes) => Ok(sized(bytes.as_slice())),
-        None => Ok(None),
-    }
+    Ok(from_hex(heap, word)?.and_then(|bytes| sized(bytes.as_slice())))
 }
 
 // Bytes as a cell, where they are 64.
 fn sized(bytes: &[u8]) -> Option<[u8; CELL]>
     ensures { result ≡ sized (Some bytes.now) }
 {
-    if bytes.len() != CELL {
-        return None;
-    }
-    let mut cell = [0; CELL];
-    cell.copy_from_slice(bytes);
-    Some(cell)
+    bytes.try_into().ok()
 }
 
 // The length behind the cell, where there is one.

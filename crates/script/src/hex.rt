@@ -74,10 +74,7 @@ fn value_of(digit: u8) -> Option<u8>
 fn read_byte(high: u8, low: u8) -> Option<u8>
     ensures { result ≡ byte_of high low }
 {
-    match (value_of(high), value_of(low)) {
-        (Some(high), Some(low)) => Some(high * 16 + low),
-        _ => None,
-    }
+    Some(value_of(high)? * 16 + value_of(low)?)
 }
 
 // The bytes of digits; none where one is no digit, or one is left over.

@@ -1,7 +1,6 @@
 // The words of a line.
-ghost use Rattle.std.specs.Prelude.{◌≡◌, ◌≤◌, length};
-ghost use Rattle.std.specs.List.{prefix_len};
-ghost use Rattle.script.specs.Words.{separates, parts, skip, first_word, after_word, blank, passed_over};
+ghost use Rattle.std.specs.Prelude.{◌≡◌, position};
+ghost use Rattle.script.specs.Words.{separates, in_word, skip, first_word, after_word, blank, passed_over};
 
 // Whether a byte separates words: a space, a tab or a carriage return.
 fn separates(byte: u8) -> bool
@@ -10,32 +9,28 @@ fn separates(byte: u8) -> bool
     matches!(byte, b' ' | b'\t' | b'\r')
 }
 
-// Whether a byte is of a gap between words; at `gap` false, whether it is of a word.
-fn is_part(byte: u8, gap: bool) -> bool
-    ensures { result ≡ parts gap byte }
+// Where the first byte of a word stands, none where a line has no word.
+fn word_start(line: &[u8]) -> Option<usize>
+    ensures { result ≡ position in_word line.now }
 {
-    separates(byte) == gap
+    line.iter().position(|byte| !separates(*byte))
 }
 
-// How many bytes at the front are of a gap, or of a word.
-fn run_length(line: &[u8], gap: bool) -> usize
-    ensures within { result ≤ length line.now }
-    ensures value { result ≡ prefix_len (parts gap) line.now }
+// Where the first byte that separates words stands.
+fn word_end(text: &[u8]) -> Option<usize>
+    ensures { result ≡ position separates text.now }
 {
-    for (i, byte) in line.iter().enumerate() {
-        if !is_part(*byte, gap) {
-            return i;
-        }
-    }
-    line.len()
+    text.iter().position(|byte| separates(*byte))
 }
 
 // The line from its first word on.
 fn skip(line: &[u8]) -> &[u8]
     ensures { result.now ≡ skip line.now }
 {
-    let (_, rest) = line.split_at(run_length(line, true));
-    rest
+    match word_start(line) {
+        Some(gap) => &line[gap..],
+        None => &[],
+    }
 }
 
 // The first word, empty where there is none, and what follows it.
@@ -44,7 +39,7 @@ pub fn split_word(line: &[u8]) -> (&[u8], &[u8])
     ensures rest { result.1.now ≡ after_word line.now }
 {
     let text = skip(line);
-    text.split_at(run_length(text, false))
+    text.split_at(word_end(text).unwrap_or(text.len()))
 }
 
 // Whether a line has no word.
