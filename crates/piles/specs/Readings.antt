@@ -3,7 +3,7 @@
 --   WrittenBase, WrittenPile     a base and a pile by what is written of them, lists in place of vectors
 --   base_written, pile_written   what is written of a base and of a pile of the program
 --   paired                       two values put together, none where one is none
---   other, cut_at                a text cut at the first such byte, none where it has none
+--   cut_at                       a text cut at the first such byte, none where it has none
 --   narrow, half_of              a number of 16 bits
 --   record_from, record_of       the record that a word R:C writes
 --   entry_of                     the base entry that a word writes: a number of 16 bits, with a minus sign or without
@@ -16,10 +16,10 @@
 --   halves_from, halves_of       what stands before a plus between such bytes, and what behind it
 --   bases_from, bases_of         the two bases that a line writes around a plus
 --   interleaved_over, interleaved_from, interleaved_of, stacked_of, pile_of   the pile that a line writes, none where it is not understood
-use Rattle.std.specs.Prelude.{ℕ, zero, suc, ◌+◌, ◌-◌, ◌^◌, Bool, false, cond, not, ◌&&◌, List, [], ◌∷◌, length, take, drop, ℤ, pos, neg_ℤ, Some, None, vec_items, codes, Option, ◌==◌, nat_le, nat_lt, slice_index}
+use Rattle.std.specs.Prelude.{ℕ, zero, suc, ◌+◌, ◌-◌, ◌^◌, Bool, false, cond, ◌&&◌, List, [], ◌∷◌, length, take, drop, ℤ, pos, neg_ℤ, Some, None, vec_items, codes, Option, ◌==◌, nat_le, nat_lt, slice_index}
 use Rattle.std.specs.Option.{option_map}
 use Rattle.std.specs.Str.Parse.{digits_value}
-use Rattle.std.specs.List.{prefix_len}
+use Rattle.std.specs.List.{position}
 use Rattle.std.specs.Str.{bytes_eq}
 use Rattle.codes.specs.declared.record.Record.{Record}
 use Rattle.script.specs.Numbers.{numeral, number_of}
@@ -57,13 +57,8 @@ paired f None b = None
 paired f (Some a) None = None
 paired f (Some a) (Some b) = Some (f a b)
 
-abbrev pub other : ℕ → ℕ → Bool
-other byte b = not (b == byte)
-
 abbrev pub cut_at : ℕ → List ℕ → Option (List ℕ × List ℕ)
-cut_at byte text =
-    let n = prefix_len (other byte) text in
-    cond (nat_lt n (length text)) (Some (take n text, drop (n + 1) text)) None
+cut_at byte text = option_map (λ i. (take i text, drop (i + 1) text)) (position (λ b. b == byte) text)
 
 abbrev pub narrow : Option ℕ → Option ℕ
 narrow None = None

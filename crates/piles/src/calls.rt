@@ -12,12 +12,10 @@ use codes::{Refusal, Shape};
 use std::alloc::{AllocError, Global};
 
 // Writes a number behind a space.
-fn push_number(heap: Global, text: &mut String, number: usize) -> Result<(), AllocError>
+fn push_number(text: &mut String, number: usize) -> Result<(), AllocError>
     ensures { OnOk result (string_bytes text.new ≡ string_bytes text.old ++ (codes " " ++ decimal number)) }
 {
-    let word = format!(in heap; " {number}")?;
-    text.push_str(word.as_str())?;
-    Ok(())
+    write!(text, " {number}")
 }
 
 // A line of words and then numbers.
@@ -26,7 +24,7 @@ fn numbers_text(heap: Global, words: &str, numbers: &[usize]) -> Result<String, 
 {
     let mut text = String::from_str(heap, words)?;
     for number in numbers {
-        push_number(heap, &mut text, *number)?;
+        push_number(&mut text, *number)?;
     }
     Ok(text)
 }

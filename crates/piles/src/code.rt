@@ -5,10 +5,8 @@ use quasi_cyclic::QuasiCyclic;
 mod making;
 mod questions;
 
-// The listed code or the quasi-cyclic one, whichever is meant.
 #[derive(Clone, Copy)]
-pub(crate) struct BaseCode<'a> {
-    listed: Listed<'a>,
-    circulant: QuasiCyclic<'a>,
-    is_listed: bool,
+pub(crate) enum BaseCode<'a> {
+    Listed(Listed<'a>),
+    Circulant(QuasiCyclic<'a>),
 }

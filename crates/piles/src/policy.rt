@@ -50,8 +50,5 @@ pub fn read_policy(line: &[u8]) -> Option<PolicyName>
     if !is_blank(rest) {
         return None;
     }
-    match plain_policy(word) {
-        Some(policy) => Some(component_over(policy)),
-        None => None,
-    }
+    plain_policy(word).map(component_over)
 }

@@ -56,10 +56,7 @@ fn read_listed(heap: Global, line: &[u8]) -> Result<Option<Base>, AllocError>
     let (Some(m), Some(n)) = (read_size(m), read_size(n)) else {
         return Ok(None);
     };
-    match read_list(heap, rest)? {
-        Some(records) => Ok(Some(Base::Listed { m, n, records })),
-        None => Ok(None),
-    }
+    Ok(read_list(heap, rest)?.map(|records| Base::Listed { m, n, records }))
 }
 
 // A B Z E E ..
@@ -70,10 +67,7 @@ fn read_circulant(heap: Global, line: &[u8]) -> Result<Option<Base>, AllocError>
     let Some(Squares { a, b, z }) = squares else {
         return Ok(None);
     };
-    match read_list(heap, rest)? {
-        Some(entries) => Ok(Some(Base::Circulant { a, b, z, entries })),
-        None => Ok(None),
-    }
+    Ok(read_list(heap, rest)?.map(|entries| Base::Circulant { a, b, z, entries }))
 }
 
 // listed .. · circulant ..
@@ -134,15 +128,10 @@ fn read_interleaved(heap: Global, line: &[u8]) -> Result<Option<Pile>, AllocErro
     };
     let (word, rest) = split_word(below);
     if is_word(word, "stacked") {
-        match read_bases(heap, rest)? {
-            Some((first, second)) => Ok(Some(Pile::InterleavedStack(squares, first, second))),
-            None => Ok(None),
-        }
+        let bases = read_bases(heap, rest)?;
+        Ok(bases.map(|(first, second)| Pile::InterleavedStack(squares, first, second)))
     } else {
-        match read_base(heap, below)? {
-            Some(base) => Ok(Some(Pile::Interleaved(squares, base))),
-            None => Ok(None),
-        }
+        Ok(read_base(heap, below)?.map(|base| Pile::Interleaved(squares, base)))
     }
 }
 
@@ -152,19 +141,15 @@ fn read_stacked(heap: Global, line: &[u8]) -> Result<Option<Pile>, AllocError>
 {
     let (word, rest) = split_word(line);
     if !is_interleaved(word) {
-        return match read_bases(heap, line)? {
-            Some((first, second)) => Ok(Some(Pile::Stacked(first, second))),
-            None => Ok(None),
-        };
+        let bases = read_bases(heap, line)?;
+        return Ok(bases.map(|(first, second)| Pile::Stacked(first, second)));
     }
     let (squares, rest) = read_squares(rest);
     let Some(squares) = squares else {
         return Ok(None);
     };
-    match read_bases(heap, rest)? {
-        Some((first, second)) => Ok(Some(Pile::InterleavedInStack(squares, first, second))),
-        None => Ok(None),
-    }
+    let bases = read_bases(heap, rest)?;
+    Ok(bases.map(|(first, second)| Pile::InterleavedInStack(squares, first, second)))
 }
 
 // The pile that a line writes; none where it is not understood.
@@ -177,10 +162,7 @@ pub fn read_pile(heap: Global, line: &[u8]) -> Result<Option<Pile>, AllocError>
     } else if is_word(word, "stacked") {
         read_stacked(heap, rest)
     } else {
-        match read_base(heap, line)? {
-            Some(base) => Ok(Some(Pile::Single(base))),
-            None => Ok(None),
-        }
+        Ok(read_base(heap, line)?.map(Pile::Single))
     }
 }
 

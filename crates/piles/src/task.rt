@@ -54,9 +54,7 @@ fn with_interleaved_in_stack<C: Code + Drop, T: Task>(
     ensures { Done T.Task.does task.old task.new (joined (turned squares (Ok (C.Rows.matrix below))) (base_code second.now)) result }
 {
     let upper = interleave(below, squares.a, squares.b, squares.z)?;
-    let mut lower = BaseCode::smallest();
-    lower.make(second)?;
-    with_stack(upper, lower, task)
+    with_stack(upper, BaseCode::of(second)?, task)
 }
 
 // Does a task with a stack that is interleaved.
@@ -76,29 +74,23 @@ fn with_interleaved_stack<P: Code + Drop, Q: Code + Drop, T: Task>(
 pub fn with_code<T: Task>(pile: &Pile, task: &mut T) -> Result<T::Out, Refusal>
     ensures { Done T.Task.does task.old task.new (pile_code pile.now) result }
 {
-    let mut first = BaseCode::smallest();
-    let mut second = BaseCode::smallest();
     match pile {
         Pile::Single(base) => {
-            first.make(base)?;
-            Ok(task.run(&first))
+            let code = BaseCode::of(base)?;
+            Ok(task.run(&code))
         }
         Pile::Interleaved(squares, base) => {
-            first.make(base)?;
-            with_interleaved(first, *squares, task)
+            with_interleaved(BaseCode::of(base)?, *squares, task)
         }
         Pile::Stacked(upper, lower) => {
-            first.make(upper)?;
-            second.make(lower)?;
+            let (first, second) = (BaseCode::of(upper)?, BaseCode::of(lower)?);
             with_stack(first, second, task)
         }
         Pile::InterleavedInStack(squares, upper, lower) => {
-            first.make(upper)?;
-            with_interleaved_in_stack(first, *squares, lower, task)
+            with_interleaved_in_stack(BaseCode::of(upper)?, *squares, lower, task)
         }
         Pile::InterleavedStack(squares, upper, lower) => {
-            first.make(upper)?;
-            second.make(lower)?;
+            let (first, second) = (BaseCode::of(upper)?, BaseCode::of(lower)?);
             with_interleaved_stack(first, second, *squares, task)
         }
     }

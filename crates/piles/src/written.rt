@@ -1,10 +1,10 @@
 // What a word of a list writes: a record, or a base entry.
-ghost use Rattle.std.specs.Prelude.{◌≡◌, ℕ, List, IfOk, vec_items, Option};
+ghost use Rattle.std.specs.Prelude.{◌≡◌, ◌==◌, ℕ, List, IfOk, vec_items, Option, position};
 ghost use Rattle.std.specs.Option.{option_map};
 ghost use Rattle.piles.specs.Readings.{half_of, cut_at, record_of, entry_of, list_of};
 
 use codes::Record;
-use script::{read_number, split_word};
+use script::{Words, read_number};
 use std::alloc::{AllocError, Global};
 use std::str::from_utf8;
 
@@ -23,16 +23,19 @@ fn read_half(word: &[u8]) -> Option<u16>
     u16::try_from(read_number(word)?).ok()
 }
 
+// Where the first such byte stands.
+fn place_of(text: &[u8], byte: u8) -> Option<usize>
+    ensures { result ≡ position (λ b. b == byte) text.now }
+{
+    text.iter().position(|b| *b == byte)
+}
+
 // What stands before the first such byte, and what behind it.
 pub(crate) fn split_at_byte(text: &[u8], byte: u8) -> Option<(&[u8], &[u8])>
     ensures { option_map (λ p. (p.0.now, p.1.now)) result ≡ cut_at byte text.now }
 {
-    for (i, b) in text.iter().enumerate() {
-        if *b == byte {
-            return Some((&text[..i], &text[i + 1..]));
-        }
-    }
-    None
+    let i = place_of(text, byte)?;
+    Some((&text[..i], &text[i + 1..]))
 }
 
 // R:C
@@ -71,18 +74,11 @@ pub(crate) fn read_list<T: Written>(heap: Global, line: &[u8]) -> Result<Option<
     ensures { IfOk result (λ o. option_map vec_items o ≡ list_of T.Written.written line.now) }
 {
     let mut items = Vec::new(heap);
-    let mut rest = line;
-    // A line has no more words than bytes.
-    for _ in 0..line.len() {
-        let (word, more) = split_word(rest);
-        if word.is_empty() {
-            break;
-        }
+    for word in Words::of(line) {
         let Some(item) = T::of_word(word) else {
             return Ok(None);
         };
         items.push(item)?;
-        rest = more;
     }
     Ok(Some(items))
 }

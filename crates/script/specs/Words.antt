@@ -7,10 +7,12 @@
 --   after_word    what follows the first word
 --   past          the line past its first words
 --   word          a word by its place, empty past the last
+--   Split         a line's first word is taken off; there is none where the line is blank
 --   blank         whether a line has no word
 --   comment       whether a line begins with '#'
 --   passed_over   whether a line is a comment or blank
-use Rattle.std.specs.Prelude.{ℕ, zero, suc, Bool, false, not, ◌||◌, List, [], ◌∷◌, length, take, drop, ◌==◌}
+use Rattle.std.specs.Borrow.{Bor}
+use Rattle.std.specs.Prelude.{◌≡◌, ℕ, zero, suc, Bool, false, not, Some, None, Option, ◌||◌, List, [], ◌∷◌, length, take, drop, ◌==◌}
 use Rattle.std.specs.List.{position_or_len}
 
 abbrev pub separates : ℕ → Bool
@@ -34,6 +36,10 @@ past (suc i) line = past i (after_word line)
 
 abbrev pub word : ℕ → List ℕ → List ℕ
 word i line = first_word (past i line)
+
+abbrev pub Split : List ℕ → Option (Bor (List ℕ)) → List ℕ → Type 0
+Split line None rest = (length (first_word line) ≡ 0) × (rest ≡ line)
+Split line (Some w) rest = (w.now ≡ first_word line) × ((length w.now ≡ 0 → ⊥) × (rest ≡ after_word line))
 
 abbrev pub blank : List ℕ → Bool
 blank line = length (skip line) == 0

@@ -7,6 +7,7 @@ mod hex;
 mod line;
 mod number;
 mod word;
+mod words;
 
 pub use answer::{Answer, perform, print};
 pub use call::{Call, is_word, parse};
@@ -14,3 +15,4 @@ pub use hex::{from_hex, to_hex};
 pub use line::{answer_line, refuse_line};
 pub use number::read_number;
 pub use word::{is_blank, split_word};
+pub use words::Words;

@@ -1,6 +1,6 @@
 // Making the code at the bottom of a pile.
 ghost use Rattle.std.specs.Prelude.{◌≡◌};
-ghost use Rattle.piles.specs.Bases.{base_code, base_matrix, outcome};
+ghost use Rattle.piles.specs.Bases.{base_code, base_told};
 
 use crate::base::Base;
 use crate::code::BaseCode;
@@ -8,38 +8,21 @@ use codes::{Listed, Refusal};
 use quasi_cyclic::QuasiCyclic;
 
 impl<'a> BaseCode<'a> {
-    pub(crate) fn smallest() -> BaseCode<'a> {
-        BaseCode {
-            listed: Listed::smallest(),
-            circulant: QuasiCyclic::smallest(),
-            is_listed: true,
-        }
-    }
-
-    // Makes this the code of a base, or refuses.
-    pub(crate) fn make(&mut self, base: &'a Base) -> Result<(), Refusal>
-        ensures { outcome result (base_matrix self.new) ≡ base_code base.now }
+    // The code of a base, or why it gives none.
+    pub(crate) fn of(base: &'a Base) -> Result<BaseCode<'a>, Refusal>
+        ensures { base_told result ≡ base_code base.now }
     {
-        let mut listed = Listed::smallest();
-        let mut circulant = QuasiCyclic::smallest();
         match base {
             Base::Listed { m, n, records } => {
-                listed.make(*m, *n, records.as_slice())?;
-                *self = BaseCode {
-                    listed,
-                    circulant,
-                    is_listed: true,
-                };
+                let mut code = Listed::smallest();
+                code.make(*m, *n, records.as_slice())?;
+                Ok(BaseCode::Listed(code))
             }
             Base::Circulant { a, b, z, entries } => {
-                circulant.make(*a, *b, *z, entries.as_slice())?;
-                *self = BaseCode {
-                    listed,
-                    circulant,
-                    is_listed: false,
-                };
+                let mut code = QuasiCyclic::smallest();
+                code.make(*a, *b, *z, entries.as_slice())?;
+                Ok(BaseCode::Circulant(code))
             }
         }
-        Ok(())
     }
 }

@@ -10,36 +10,32 @@ impl<'a> Rows for BaseCode<'a> {
     ghost lawful = { λ k. base_lawful k };
 
     fn shape(&self) -> Shape {
-        if self.is_listed {
-            self.listed.shape()
-        } else {
-            self.circulant.shape()
+        match self {
+            BaseCode::Listed(code) => code.shape(),
+            BaseCode::Circulant(code) => code.shape(),
         }
     }
 
     fn weight(&self, r: usize) -> usize {
-        if self.is_listed {
-            self.listed.weight(r)
-        } else {
-            self.circulant.weight(r)
+        match self {
+            BaseCode::Listed(code) => code.weight(r),
+            BaseCode::Circulant(code) => code.weight(r),
         }
     }
 
     fn column(&self, r: usize, i: usize) -> Option<usize> {
-        if self.is_listed {
-            self.listed.column(r, i)
-        } else {
-            self.circulant.column(r, i)
+        match self {
+            BaseCode::Listed(code) => code.column(r, i),
+            BaseCode::Circulant(code) => code.column(r, i),
         }
     }
 }
 
 impl<'a> Code for BaseCode<'a> {
     fn holds(&self, r: usize, c: usize) -> bool {
-        if self.is_listed {
-            self.listed.holds(r, c)
-        } else {
-            self.circulant.holds(r, c)
+        match self {
+            BaseCode::Listed(code) => code.holds(r, c),
+            BaseCode::Circulant(code) => code.holds(r, c),
         }
     }
 }
