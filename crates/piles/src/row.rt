@@ -19,13 +19,7 @@ pub(crate) struct AskRow {
 fn columns<C: Code>(heap: Global, code: &C, r: usize) -> Result<Vec<usize>, AllocError>
     ensures { IfOk result (λ v. v.items ≡ row_at (C.Rows.matrix code.now) r) }
 {
-    let mut columns = Vec::new(heap);
-    for i in 0..code.weight(r) {
-        if let Some(c) = code.column(r, i) {
-            columns.push(c)?;
-        }
-    }
-    Ok(columns)
+    code.row(r).collect(heap)
 }
 
 impl Task for AskRow {
