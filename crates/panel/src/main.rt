@@ -2,71 +2,57 @@
 #![tactic(auto)]
 
 use piles::{Pile, PolicyName, read_pile, read_policy, read_row, take_code, tell_row};
-use script::{answer_line, is_word, refuse_line, split_word};
+use script::{answer_line, refuse_line, split_word};
 use std::alloc::{AllocError, Global};
 use std::io;
 use std::io::{BufRead, BufReader, BufWriter, Write};
 
-// code CODE
-fn answer_code(
-    heap: Global,
-    line: &[u8],
-    hand: &mut Option<Pile>,
-) -> Result<Option<String>, AllocError> {
-    match read_pile(heap, line)? {
-        Some(pile) => Ok(Some(take_code(heap, pile, hand)?)),
-        None => Ok(None),
-    }
+// What the calls so far have left in hand.
+#[derive(Drop)]
+struct Hand {
+    code: Option<Pile>,
+    policy: PolicyName,
 }
 
-// row R
-fn answer_row(
-    heap: Global,
-    line: &[u8],
-    hand: &Option<Pile>,
-) -> Result<Option<String>, AllocError> {
-    match read_row(line) {
-        Some(r) => Ok(Some(tell_row(heap, r as usize, hand)?)),
-        None => Ok(None),
+impl Hand {
+    // code CODE
+    fn take_code(&mut self, heap: Global, line: &[u8]) -> Result<Option<String>, AllocError> {
+        let Some(pile) = read_pile(heap, line)? else {
+            return Ok(None);
+        };
+        take_code(heap, pile, &mut self.code).map(Some)
     }
-}
 
-// policy first · policy heaviest · policy component first · policy component heaviest
-fn answer_policy(
-    heap: Global,
-    line: &[u8],
-    policy: &mut PolicyName,
-) -> Result<Option<String>, AllocError> {
-    match read_policy(line) {
-        Some(name) => {
-            *policy = name;
-            Ok(Some(String::from_str(heap, "policy granted")?))
+    // row R
+    fn tell_row(&self, heap: Global, line: &[u8]) -> Result<Option<String>, AllocError> {
+        let Some(r) = read_row(line) else {
+            return Ok(None);
+        };
+        tell_row(heap, r as usize, &self.code).map(Some)
+    }
+
+    // policy first · policy heaviest · policy component first · policy component heaviest
+    fn take_policy(&mut self, heap: Global, line: &[u8]) -> Result<Option<String>, AllocError> {
+        let Some(name) = read_policy(line) else {
+            return Ok(None);
+        };
+        self.policy = name;
+        String::from_str(heap, "policy granted").map(Some)
+    }
+
+    // The answer to line `k`; none where the line is passed over.
+    fn answer(&mut self, heap: Global, k: u64, line: &[u8]) -> Result<Option<String>, AllocError> {
+        let (word, rest) = split_word(line);
+        let told = match word {
+            b"code" => self.take_code(heap, rest)?,
+            b"row" => self.tell_row(heap, rest)?,
+            b"policy" => self.take_policy(heap, rest)?,
+            _ => return answer_line(heap, k, line),
+        };
+        match told {
+            Some(text) => Ok(Some(text)),
+            None => refuse_line(heap, k, line).map(Some),
         }
-        None => Ok(None),
-    }
-}
-
-// The answer to line `k`, with a policy in hand, and a code or none; none where the line is passed over.
-fn answer(
-    heap: Global,
-    k: u64,
-    line: &[u8],
-    hand: &mut Option<Pile>,
-    policy: &mut PolicyName,
-) -> Result<Option<String>, AllocError> {
-    let (word, rest) = split_word(line);
-    let told = if is_word(word, "code") {
-        answer_code(heap, rest, hand)?
-    } else if is_word(word, "row") {
-        answer_row(heap, rest, hand)?
-    } else if is_word(word, "policy") {
-        answer_policy(heap, rest, policy)?
-    } else {
-        return answer_line(heap, k, line);
-    };
-    match told {
-        Some(text) => Ok(Some(text)),
-        None => Ok(Some(refuse_line(heap, k, line)?)),
     }
 }
 
@@ -76,8 +62,10 @@ fn main(rt: HostRuntime) -> io::Result<()> {
     let mut output = BufWriter::new(heap, rt.stdout())?;
     // One buffer holds each line in turn.
     let mut line = Vec::new(heap);
-    let mut hand = None;
-    let mut policy = PolicyName::First;
+    let mut hand = Hand {
+        code: None,
+        policy: PolicyName::First,
+    };
     for k in 1..u64::MAX {
         line.clear();
         if input.read_until(b'\n', &mut line)? == 0 {
@@ -86,7 +74,7 @@ fn main(rt: HostRuntime) -> io::Result<()> {
         if let Some(b'\n') = line.last() {
             line.pop();
         }
-        if let Some(told) = answer(heap, k, line.as_slice(), &mut hand, &mut policy)? {
+        if let Some(told) = hand.answer(heap, k, line.as_slice())? {
             output.write_all(told.as_bytes())?;
             output.write_all(b"\n")?;
         }

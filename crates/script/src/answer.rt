@@ -1,14 +1,16 @@
 // What a call answers, and the line that tells it.
-ghost use Rattle.std.specs.Prelude.{◌≡◌, [], ◌∷◌, ◌++◌, IfOk, string_bytes};
+ghost use Rattle.std.specs.Prelude.{◌≡◌, [], ◌∷◌, ◌++◌, Some, IfOk, string_bytes};
+ghost use Rattle.std.specs.Fmt.{WritesOnOk};
 ghost use Rattle.packets.specs.Faults.{meaning, answered};
 ghost use Rattle.refusals.specs.Refusals.{refusal};
 ghost use Rattle.script.specs.Calls.{asked};
 ghost use Rattle.script.specs.Answers.{said, reply, write_reply, refused_text, text};
 
 use crate::call::Call;
-use crate::hex::to_hex;
+use crate::hex::Hex;
 use packets::{CELL, HeaderFault, PACKET, read_header, reception_figure, write_packet};
 use std::alloc::{AllocError, Global};
+use std::fmt;
 
 #[derive(Clone, Copy)]
 pub enum Answer {
@@ -70,26 +72,36 @@ fn cause_of(fault: HeaderFault) -> (u32, u64)
     }
 }
 
-// The line that tells a refusal of the call of this word.
-fn print_refusal(heap: Global, word: &str, fault: HeaderFault) -> Result<String, AllocError>
-    ensures { IfOk result (λ s. string_bytes s ≡ word.now ++ refused_text (meaning fault)) }
+// Writes the line that tells a refusal of the call of this word.
+fn write_refusal<W: fmt::Write>(
+    f: &mut fmt::Formatter<W>,
+    word: &str,
+    fault: HeaderFault,
+) -> fmt::Result
+    ensures { WritesOnOk W.write_str_gives f.old result (word.now ++ refused_text (meaning fault)) f.new }
 {
     let (cause, value) = cause_of(fault);
-    format!(in heap; "{word} refused {cause} {value}")
+    write!(f, "{word} refused {cause} {value}")
 }
 
 // The line that tells an answer.
+impl fmt::Display for Answer {
+    ghost output = { λ a. Some (text (said a)) };
+
+    fn fmt<W: fmt::Write>(&self, f: &mut fmt::Formatter<W>) -> fmt::Result {
+        match self {
+            Answer::Read(Ok((block, number))) => write!(f, "read granted {block} {number}"),
+            Answer::Read(Err(fault)) => write_refusal(f, "read", *fault),
+            Answer::Write(Ok(packet)) => write!(f, "write granted {}", Hex(packet)),
+            Answer::Write(Err(fault)) => write_refusal(f, "write", *fault),
+            Answer::Figure(percent) => write!(f, "figure {percent}"),
+        }
+    }
+}
+
+// The line that tells an answer, as a text of its own.
 pub fn print(heap: Global, answer: &Answer) -> Result<String, AllocError>
     ensures { IfOk result (λ s. string_bytes s ≡ text (said answer.now)) }
 {
-    match answer {
-        Answer::Read(Ok((block, number))) => format!(in heap; "read granted {block} {number}"),
-        Answer::Read(Err(fault)) => print_refusal(heap, "read", *fault),
-        Answer::Write(Ok(packet)) => {
-            let hex = to_hex(heap, packet)?;
-            format!(in heap; "write granted {hex}")
-        }
-        Answer::Write(Err(fault)) => print_refusal(heap, "write", *fault),
-        Answer::Figure(percent) => format!(in heap; "figure {percent}"),
-    }
+    format!(in heap; "{answer}")
 }

@@ -1,10 +1,12 @@
 // Bytes as text: two lowercase hex digits to a byte, and `-` for no bytes.
-ghost use Rattle.std.specs.Prelude.{◌≡◌, ◌<◌, [], ◌∷◌, ◌++◌, IfOk, Some, vec_items, string_bytes, OnOk};
+ghost use Rattle.std.specs.Prelude.{◌≡◌, ◌<◌, IfOk, Some, vec_items, string_bytes};
+ghost use Rattle.std.specs.Fmt.{WritesOnOk};
 ghost use Rattle.std.specs.Option.{option_map};
 ghost use Rattle.std.specs.Char.{digit_char};
 ghost use Rattle.script.specs.Hex.{digit_value, byte_digits, byte_of, pairs_of, mark, hex_of, bytes_of};
 
 use std::alloc::{AllocError, Global};
+use std::fmt;
 
 // The character of a digit.
 fn digit(value: u8) -> char
@@ -19,22 +21,12 @@ fn digit(value: u8) -> char
     }
 }
 
-// Writes a digit.
-fn push_digit(text: &mut String, value: u8) -> Result<(), AllocError>
-    requires { value < 16 }
-    ensures { OnOk result (string_bytes text.new ≡ string_bytes text.old ++ digit_char value ∷ []) }
-{
-    text.push(digit(value))?;
-    Ok(())
-}
-
 // Writes the two digits of a byte.
-pub(crate) fn push_byte(text: &mut String, byte: u8) -> Result<(), AllocError>
-    ensures { OnOk result (string_bytes text.new ≡ string_bytes text.old ++ byte_digits byte) }
+pub(crate) fn write_byte<W: fmt::Write>(f: &mut fmt::Formatter<W>, byte: u8) -> fmt::Result
+    ensures { WritesOnOk W.write_str_gives f.old result (byte_digits byte) f.new }
 {
-    push_digit(text, byte / 16)?;
-    push_digit(text, byte % 16)?;
-    Ok(())
+    f.write_char(digit(byte / 16))?;
+    f.write_char(digit(byte % 16))
 }
 
 // What stands before the digits: `-` where there are none.
@@ -47,16 +39,28 @@ fn mark(bytes: &[u8]) -> &'static str
     }
 }
 
+// Bytes that print as their text.
+#[derive(Clone, Copy)]
+pub struct Hex<'a>(pub &'a [u8]);
+
+impl fmt::Display for Hex<'_> {
+    ghost output = { λ h. Some (hex_of h.0.now) };
+
+    fn fmt<W: fmt::Write>(&self, f: &mut fmt::Formatter<W>) -> fmt::Result {
+        f.write_str(mark(self.0))?;
+        for byte in self.0 {
+            write_byte(f, *byte)?;
+        }
+        Ok(())
+    }
+}
+
 // The text of bytes. It reads back as those bytes.
 pub fn to_hex(heap: Global, bytes: &[u8]) -> Result<String, AllocError>
     ensures text { IfOk result (λ s. string_bytes s ≡ hex_of bytes.now) }
     ensures back { IfOk result (λ s. bytes_of (string_bytes s) ≡ Some bytes.now) }
 {
-    let mut text = String::from_str(heap, mark(bytes))?;
-    for byte in bytes {
-        push_byte(&mut text, *byte)?;
-    }
-    Ok(text)
+    format!(in heap; "{}", Hex(bytes))
 }
 
 // The value of a digit.

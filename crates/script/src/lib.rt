@@ -11,7 +11,7 @@ mod words;
 
 pub use answer::{Answer, perform, print};
 pub use call::{Call, is_word, parse};
-pub use hex::{from_hex, to_hex};
+pub use hex::{Hex, from_hex, to_hex};
 pub use line::{answer_line, refuse_line};
 pub use number::read_number;
 pub use word::{is_blank, split_word};

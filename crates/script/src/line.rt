@@ -1,14 +1,16 @@
 // A line of a script, and the line that answers it.
-ghost use Rattle.std.specs.Prelude.{◌≡◌, not, ◌++◌, take, is_some, IfOk, string_bytes, OnOk};
+ghost use Rattle.std.specs.Prelude.{◌≡◌, not, take, Some, is_some, IfOk, string_bytes};
+ghost use Rattle.std.specs.Fmt.{WritesOnOk};
 ghost use Rattle.std.specs.Option.{option_map};
 ghost use Rattle.script.specs.Words.{passed_over};
 ghost use Rattle.script.specs.Lines.{plain, escaped, dots, shown, not_understood, line_answer};
 
 use crate::answer::{perform, print};
 use crate::call::parse;
-use crate::hex::push_byte;
+use crate::hex::write_byte;
 use crate::word::passed_over;
 use std::alloc::{AllocError, Global};
+use std::fmt;
 
 // How much of a line is shown.
 const SHOWN: usize = 60;
@@ -21,16 +23,14 @@ fn is_plain(byte: u8) -> bool
 }
 
 // Writes a byte that may be no text.
-fn push_shown(text: &mut String, byte: u8) -> Result<(), AllocError>
-    ensures { OnOk result (string_bytes text.new ≡ string_bytes text.old ++ escaped byte) }
+fn write_shown<W: fmt::Write>(f: &mut fmt::Formatter<W>, byte: u8) -> fmt::Result
+    ensures { WritesOnOk W.write_str_gives f.old result (escaped byte) f.new }
 {
     if is_plain(byte) {
-        text.push(byte as char)?;
-    } else {
-        text.push_str("\\x")?;
-        push_byte(text, byte)?;
+        return f.write_char(char::from(byte));
     }
-    Ok(())
+    f.write_str("\\x")?;
+    write_byte(f, byte)
 }
 
 // The front of a line, and dots where there is more.
@@ -45,25 +45,27 @@ fn cut(line: &[u8]) -> (&[u8], &'static str)
     (front, "...")
 }
 
-// A line as text.
-fn show(heap: Global, line: &[u8]) -> Result<String, AllocError>
-    ensures { IfOk result (λ s. string_bytes s ≡ shown line.now) }
-{
-    let (front, dots) = cut(line);
-    let mut text = String::new(heap);
-    for byte in front {
-        push_shown(&mut text, *byte)?;
+// A line that prints as text, however it is: no more than its front.
+#[derive(Clone, Copy)]
+struct Shown<'a>(&'a [u8]);
+
+impl fmt::Display for Shown<'_> {
+    ghost output = { λ l. Some (shown l.0.now) };
+
+    fn fmt<W: fmt::Write>(&self, f: &mut fmt::Formatter<W>) -> fmt::Result {
+        let (front, dots) = cut(self.0);
+        for byte in front {
+            write_shown(f, *byte)?;
+        }
+        f.write_str(dots)
     }
-    text.push_str(dots)?;
-    Ok(text)
 }
 
 // The answer to a line that is no call.
 pub fn refuse_line(heap: Global, k: u64, line: &[u8]) -> Result<String, AllocError>
     ensures { IfOk result (λ s. string_bytes s ≡ not_understood k line.now) }
 {
-    let text = show(heap, line)?;
-    format!(in heap; "line {k}: not understood: {text}")
+    format!(in heap; "line {k}: not understood: {}", Shown(line))
 }
 
 // The answer to line `k`, or none where the line is passed over.
