@@ -9,6 +9,7 @@ use crate::pile::Pile;
 use crate::row::row_of;
 use crate::sizes::sizes_of;
 use codes::{Refusal, Shape};
+use refusals::Numbered;
 use std::alloc::{AllocError, Global};
 
 // Writes a number behind a space.
@@ -41,8 +42,13 @@ fn code_text(heap: Global, answer: Result<Shape, Refusal>) -> Result<String, All
                 ones,
             },
         ) => numbers_text(heap, "code granted", &[rows, columns, ones]),
-        Err(Refusal::BadShape) => numbers_text(heap, "code refused", &[17]),
-        Err(Refusal::BadEntry(place)) => numbers_text(heap, "code refused", &[16, place]),
+        Err(refusal) => {
+            let number = usize::from(refusal.number());
+            match refusal {
+                Refusal::BadShape => numbers_text(heap, "code refused", &[number]),
+                Refusal::BadEntry(place) => numbers_text(heap, "code refused", &[number, place]),
+            }
+        }
     }
 }
 

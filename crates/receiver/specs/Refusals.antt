@@ -1,18 +1,14 @@
 -- Refusals: the number of each, and the values that it returns.
 --
---   value_of      the first of the values
 --   meaning       what a fault of a block means
 --   unsolved      what it means that a solve gave no permit
-use Rattle.std.specs.Prelude.{ℕ, [], ◌∷◌, slice_index}
+use Rattle.std.specs.Prelude.{[], ◌∷◌}
 use Rattle.refusals.specs.Refusals.{Refusal, refusal}
+pub use Rattle.refusals.specs.Refusals.{value_of}
 use Rattle.receiver.specs.declared.fault.Fault.{Fault}
 use Rattle.receiver.specs.declared.fault.Fault.TheVariants.{BlockNumber, NoStamp, TableLength, OtherWidth, PermitOut, OtherBlock, OtherStamp, NoPlace, Received, NotLater, ShortMemory, NotItsPermit}
 use Rattle.receiver.specs.declared.fault.Unsolved.{Unsolved}
 use Rattle.receiver.specs.declared.fault.Unsolved.TheVariants.{Refused, NoCodeword, Several}
-
--- the first value, 0 where there is none
-abbrev pub value_of : Refusal → ℕ
-value_of r = slice_index r.values 0
 
 abbrev pub meaning : Fault → Refusal
 meaning (BlockNumber b) = refusal 2 (b ∷ [])

@@ -1,14 +1,14 @@
 // What a call answers, and the line that tells it.
-ghost use Rattle.std.specs.Prelude.{◌≡◌, [], ◌∷◌, ◌++◌, Some, IfOk, string_bytes};
+ghost use Rattle.std.specs.Prelude.{◌≡◌, ◌++◌, Some, IfOk, string_bytes};
 ghost use Rattle.std.specs.Fmt.{WritesOnOk};
 ghost use Rattle.packets.specs.Faults.{meaning, answered};
-ghost use Rattle.refusals.specs.Refusals.{refusal};
 ghost use Rattle.script.specs.Calls.{asked};
 ghost use Rattle.script.specs.Answers.{said, reply, write_reply, refused_text, text};
 
 use crate::call::Call;
 use crate::hex::Hex;
 use packets::{CELL, HeaderFault, PACKET, read_header, reception_figure, write_packet};
+use refusals::Numbered;
 use std::alloc::{AllocError, Global};
 use std::fmt;
 
@@ -61,17 +61,6 @@ pub fn perform(call: &Call) -> Answer
     }
 }
 
-// The number of a fault's cause, and the value that it returns.
-fn cause_of(fault: HeaderFault) -> (u32, u64)
-    ensures { meaning fault ≡ refusal result.0 (result.1 ∷ []) }
-{
-    match fault {
-        HeaderFault::Length(length) => (1, length as u64),
-        HeaderFault::Block(block) => (2, u64::from(block)),
-        HeaderFault::Number(number) => (9, u64::from(number)),
-    }
-}
-
 // Writes the line that tells a refusal of the call of this word.
 fn write_refusal<W: fmt::Write>(
     f: &mut fmt::Formatter<W>,
@@ -80,8 +69,7 @@ fn write_refusal<W: fmt::Write>(
 ) -> fmt::Result
     ensures { WritesOnOk W.write_str_gives f.old result (word.now ++ refused_text (meaning fault)) f.new }
 {
-    let (cause, value) = cause_of(fault);
-    write!(f, "{word} refused {cause} {value}")
+    write!(f, "{word} refused {} {}", fault.number(), fault.value())
 }
 
 // The line that tells an answer.
