@@ -1,8 +1,9 @@
 // Why a call on a block is refused, and what a search reports.
 ghost use Rattle.std.specs.Prelude.{◌≡◌};
-ghost use Rattle.receiver.specs.Refusals.{meaning, value_of};
+ghost use Rattle.receiver.specs.Refusals.{meaning};
 ghost use Rattle.receiver.specs.Solves.{as_unsolved};
 
+use refusals::Numbered;
 use search::{Report, Unfound};
 
 // A refresh time in seconds, from the host. 0 is no stamp.
@@ -32,11 +33,10 @@ pub enum Unsolved {
     Several(Report, u32),
 }
 
-impl Fault {
-    // The number of the refusal.
-    pub fn number(self) -> u8
-        ensures { result ≡ (meaning self).number }
-    {
+impl Numbered for Fault {
+    ghost meaning = { meaning };
+
+    fn number(&self) -> u8 {
         match self {
             Fault::BlockNumber(_) => 2,
             Fault::NoStamp => 3,
@@ -53,11 +53,8 @@ impl Fault {
         }
     }
 
-    // Its value, 0 where it has none.
-    pub fn value(self) -> u64
-        ensures { result ≡ value_of (meaning self) }
-    {
-        match self {
+    fn value(&self) -> u64 {
+        match *self {
             Fault::NoStamp => 0,
             Fault::BlockNumber(b) | Fault::OtherBlock(b) => u64::from(b),
             Fault::TableLength(n) | Fault::OtherWidth(n) | Fault::ShortMemory(n) => n as u64,

@@ -6,6 +6,7 @@ use crate::run::{Layer, Stopped};
 use codes::{Listed, Record};
 use packets::HeaderFault;
 use policies::First;
+use refusals::Numbered;
 use search::Report;
 use std::test::Fail;
 use symbols::{Cell, Word};

@@ -1,14 +1,13 @@
 // The number and the values of each refusal.
-ghost use Rattle.std.specs.Prelude.{◌≡◌, slice_index};
 ghost use Rattle.search.specs.Answers.{meaning};
 
 use crate::answer::Unfound;
+use refusals::Numbered;
 
-impl Unfound {
-    // The number of the refusal.
-    pub fn number(self) -> u8
-        ensures { result ≡ (meaning self).number }
-    {
+impl Numbered for Unfound {
+    ghost meaning = { meaning };
+
+    fn number(&self) -> u8 {
         match self {
             Unfound::OtherWidth(_) => 5,
             Unfound::ShortMemory(_) => 12,
@@ -17,11 +16,8 @@ impl Unfound {
         }
     }
 
-    // Its first value.
-    pub fn value(self) -> u64
-        ensures { result ≡ slice_index (meaning self).values 0 }
-    {
-        match self {
+    fn value(&self) -> u64 {
+        match *self {
             Unfound::OtherWidth(n) | Unfound::ShortMemory(n) => n as u64,
             Unfound::NoCodeword(report) | Unfound::Several(report, _) => u64::from(report.pivots),
         }

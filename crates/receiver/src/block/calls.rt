@@ -12,6 +12,7 @@ use crate::block::steps::{blank, open_fault};
 use crate::block::{Block, Out};
 use crate::fault::{Fault, Stamp};
 use crate::permit::{Permit, Unclosed};
+use refusals::Numbered;
 use symbols::Symbol;
 
 impl<'a, S: Symbol> Block<'a, S> {
