@@ -75,14 +75,14 @@ module _ {S : Type 0} (g : Setting S) where
         on None s = tt
         on (Some p) s = w.history p h s
 
-    pub asked_held : (a : Permit) (b s n : ℕ) → q ≡ Some a → c ≡ order.Open b s n → Asked g other (side begun m q o h ds) room c entry.PermitInHand begun m (Some a) room
+    pub asked_held : (a : Permit) (b s n : ℕ) → q ≡ Some a → c ≡ order.Open b s n → Asked g other (side begun m q o h ds) room c entry.PermitInHand begun m q room
     asked_held a b s n is opens = record {
       opened_with = o;
       history = h;
       past = ds;
-      obeys = subst (λ t. Obeys g other (side begun m q o h ds) room t entry.PermitInHand (side begun m (Some a) o h ds) room) (sym opens)
-          (subst (λ t. Opens g t b s n (side begun m q o h ds) room entry.PermitInHand (side begun m (Some a) o h ds) room) (sym is) (refl, ap (λ t. side begun m t o h ds) (sym is), refl));
-      good = λ w. subst (λ t. Good g (side begun m t o h ds)) is w;
+      obeys = subst (λ t. Obeys g other (side begun m q o h ds) room t entry.PermitInHand (side begun m q o h ds) room) (sym opens)
+          (subst (λ t. Opens g t b s n (side begun m q o h ds) room entry.PermitInHand (side begun m q o h ds) room) (sym is) (refl, refl, refl));
+      good = λ w. w;
     }
 
   -- every event of a side's blocks was true

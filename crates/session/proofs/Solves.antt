@@ -1,5 +1,7 @@
 -- Solving in a session: what the block's solve ensures, as a session tells it.
-use Rattle.std.proofs.Common.{◌≡◌, ℕ, true, false, ◌||◌, ltb, List, [], ◌∷◌, length, Some, None, Ok, Err, MatchBool, Option, Result, sym, refl, ap, ◌∙◌, subst, arith}
+use Rattle.std.proofs.Common.{◌≡◌, ℕ, true, false, ◌||◌, ltb, List, [], ◌∷◌, length, Some, None, Ok, Err, MatchBool, Option, Result, sym, refl, ap, ◌∙◌, subst}
+use Rattle.std.proofs.Math.Logic.{∥∥₁_elim}
+use mathlib.Core.HLevel.{⊥_prop}
 use Rattle.symbols.specs.Kinds.{Kind}
 use Rattle.codes.specs.Matrix.{Matrix}
 use Rattle.method.specs.Method.{Outcome}
@@ -94,10 +96,10 @@ module _ {S : Type 0} (K : Kind S) (k : Matrix) (p : PolicyName) (ws ss : ℕ) (
       go (Some f) is e = cc
       go None is e = clash (sym (no_cause _ _ _ is).0 ∙ ap is_out h.0)
 
-pub free_for : {S : Type 0} (K : Kind S) (k : Result Matrix Cause) (p : PolicyName) (ws ss : ℕ) (m m' : Block S) (q : Option Permit) (r : Result Permit Unsolved) → Holding m q → PileSolved K k p ws ss m (Ok r) m' → FreeFor q r
+pub free_for : {S : Type 0} (K : Kind S) (k : Result Matrix Cause) (p : PolicyName) (ws ss : ℕ) (m m' : Block S) (q : Option Permit) (r : Result Permit Unsolved) → ∥ Holding m q ∥₁ → PileSolved K k p ws ss m (Ok r) m' → FreeFor q r
 free_for K (Err c) p ws ss m m' q r h s = absurd s
 free_for K (Ok k) p ws ss m m' None (Ok a) h s = refl
-free_for K (Ok k) p ws ss m m' (Some b) (Ok a) h s = absurd (none_while_out K k p ws ss m m' b a h s)
+free_for K (Ok k) p ws ss m m' (Some b) (Ok a) h s = absurd (∥∥₁_elim h ⊥_prop (λ held. none_while_out K k p ws ss m m' b a held s))
 free_for K (Ok k) p ws ss m m' q (Err u) h s = tt
 
 -- a solve with the code of a pile, from what its task did; the block is still the one that was lent

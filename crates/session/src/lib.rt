@@ -3,6 +3,7 @@
 
 mod acting;
 mod carried;
+mod desk;
 mod named;
 mod order;
 mod solving;

@@ -1,16 +1,14 @@
 // A whole session: one call after another on two blocks.
-ghost use Rattle.std.specs.Prelude.{◌≡◌, List, [], length, replicate, is_some, Option};
+ghost use Rattle.std.specs.Prelude.{◌≡◌, List, length, None, replicate, is_some, Option};
 ghost use Rattle.std.specs.Option.{option_map};
-ghost use Rattle.receiver.specs.Blocks.{opened};
 ghost use Rattle.receiver.specs.History.{Event, Opened};
 ghost use Rattle.receiver.specs.View.{model};
-ghost use Rattle.session.specs.Holding.{Holding};
 ghost use Rattle.session.specs.Obeying.{setting};
-ghost use Rattle.session.specs.Sessions.{Asked, Cut, OpenMade, Played, Session, Turned, emptied};
+ghost use Rattle.session.specs.Sessions.{Asked, Cut, OpenMade, Played, Session, Turned, Unopened, emptied};
 ghost use Rattle.session.specs.Sides.{Day, memory_of, side};
 
-use crate::acting::{Made, obey};
 use crate::carried::Carried;
+use crate::desk::Desk;
 use crate::order::{Call, Entry, Order, Which};
 use piles::Pile;
 use receiver::{Block, Permit, Stamp, open_fault};
@@ -41,176 +39,114 @@ fn cut<'a, S>(tables: &mut &'a mut [S], n: usize) -> Option<&'a mut [S]>
     Some(table)
 }
 
-// Opens a block where one was, over a table of its own.
-fn open_anew<'a, S: Carried>(
-    block: &mut Block<'a, S>,
-    begun: &mut bool,
-    tables: &mut &'a mut [S],
-    number: u32,
-    stamp: Stamp,
-    places: usize,
-) -> Entry<S>
-    ensures { OpenMade S.Symbol.kind number stamp places begun.old (model block.old) (length tables.old.now) result begun.new (model block.new) (length tables.new.now) }
-{
-    match open_fault(number, stamp, places) {
-        Some(fault) => {
-            *block = Block::open(number, stamp, &mut []);
-            *begun = true;
-            Entry::Opened(Err(fault))
-        }
-        None => match cut(tables, places) {
-            Some(table) => {
-                *block = Block::open(number, stamp, table);
-                *begun = true;
-                Entry::Opened(Ok(()))
-            }
-            None => Entry::NoMemory,
-        },
-    }
-}
-
-// One call on the side that it goes to.
-fn ask<'a, S: Carried>(
-    block: &mut Block<'a, S>,
-    begun: &mut bool,
-    tables: &mut &'a mut [S],
-    held: Option<Permit>,
-    other: Option<Permit>,
-    codes: &[Pile],
-    words: &mut [u64],
-    sides: &mut [S],
-    order: &Order<S>,
-) -> Made<S>
-    requires { Holding (model block.old) held }
-    ensures asked { (o : Option Opened) (h : List (Event S)) (ds : List (Day S)) → Asked (setting S.Symbol.kind S.Carried.carriage codes.now (memory_of words.old sides.old)) other (side begun.old (model block.old) held o h ds) (length tables.old.now) order.now result.entry begun.new (model block.new) result.held (length tables.new.now) }
-    ensures other { result.other ≡ other }
-{
-    if let Order::Open {
-        number,
-        stamp,
-        places,
-    } = order
+impl<'a, S: Carried> Desk<'a, S> {
+    // Opens a block where one was, over a table of its own; the hand is empty.
+    fn open_anew(
+        &mut self,
+        tables: &mut &'a mut [S],
+        number: u32,
+        stamp: Stamp,
+        places: usize,
+    ) -> Entry<S>
+        requires { self.old.held ≡ None }
+        ensures made { OpenMade S.Symbol.kind number stamp places self.old.begun (model self.old.block) (length tables.old.now) result self.new.begun (model self.new.block) (length tables.new.now) }
+        ensures held { self.new.held ≡ None }
     {
-        return match held {
-            Some(permit) => Made {
-                entry: Entry::PermitInHand,
-                held: Some(permit),
-                other,
+        match open_fault(number, stamp, places) {
+            Some(fault) => {
+                self.block = Block::open(number, stamp, &mut []);
+                self.begun = true;
+                Entry::Opened(Err(fault))
+            }
+            None => match cut(tables, places) {
+                Some(table) => {
+                    self.block = Block::open(number, stamp, table);
+                    self.begun = true;
+                    Entry::Opened(Ok(()))
+                }
+                None => Entry::NoMemory,
             },
-            None => Made {
-                entry: open_anew(block, begun, tables, *number, *stamp, *places),
-                held: None,
-                other,
+        }
+    }
+
+    // One call on the side that it goes to.
+    fn ask(
+        &mut self,
+        other: &mut Option<Permit>,
+        tables: &mut &'a mut [S],
+        codes: &[Pile],
+        words: &mut [u64],
+        sides: &mut [S],
+        order: &Order<S>,
+    ) -> Entry<S>
+        ensures asked { (o : Option Opened) (h : List (Event S)) (ds : List (Day S)) → Asked (setting S.Symbol.kind S.Carried.carriage codes.now (memory_of words.old sides.old)) other.old (side self.old.begun (model self.old.block) self.old.held o h ds) (length tables.old.now) order.now result self.new.begun (model self.new.block) self.new.held (length tables.new.now) }
+        ensures other { other.new ≡ other.old }
+    {
+        if let Order::Open {
+            number,
+            stamp,
+            places,
+        } = order
+        {
+            return match self.held {
+                Some(_) => Entry::PermitInHand,
+                None => self.open_anew(tables, *number, *stamp, *places),
+            };
+        }
+        if !self.begun {
+            return Entry::NoBlock;
+        }
+        self.obey(other, codes, words, sides, order)
+    }
+
+    // Closes the block where a permit is left in its hand, and tells whether one was.
+    fn end(&mut self) -> bool
+        ensures told { result ≡ is_some self.old.held }
+        ensures held { self.new.held ≡ None }
+    {
+        match self.held.take() {
+            Some(permit) => match self.block.close(permit) {
+                Ok(()) => true,
+                Err(_kept) => unreachable(),
             },
-        };
+            None => false,
+        }
     }
-    if !*begun {
-        return Made {
-            entry: Entry::NoBlock,
-            held,
-            other,
-        };
-    }
-    obey(block, held, other, codes, words, sides, order)
 }
 
-// Closes a block where a permit is left in its hand, and tells whether one was.
-fn end<S: Carried>(block: &mut Block<'_, S>, held: Option<Permit>) -> bool
-    requires { Holding (model block.old) held }
-    ensures { result ≡ is_some held }
+// Lets an empty hand go.
+fn let_go(hand: Option<Permit>)
+    requires { hand ≡ None }
 {
-    match held {
-        Some(permit) => match block.close(permit) {
-            Ok(()) => true,
-            Err(_kept) => unreachable(),
-        },
-        None => false,
+    match hand {
+        None => {}
+        Some(_permit) => unreachable(),
     }
-}
-
-// The permits in the hands of the two blocks.
-pub(crate) struct Hands {
-    pub(crate) first: Option<Permit>,
-    pub(crate) second: Option<Permit>,
-}
-
-// Which of the two blocks were ever opened.
-#[derive(Clone, Copy)]
-pub(crate) struct Begun {
-    pub(crate) first: bool,
-    pub(crate) second: bool,
 }
 
 // One call on the block that it goes to.
 fn turn<'a, S: Carried>(
-    first: &mut Block<'a, S>,
-    second: &mut Block<'a, S>,
-    begun: &mut Begun,
+    first: &mut Desk<'a, S>,
+    second: &mut Desk<'a, S>,
     tables: &mut &'a mut [S],
-    hands: Hands,
     codes: &[Pile],
     words: &mut [u64],
     sides: &mut [S],
     call: &Call<S>,
-) -> (Entry<S>, Hands)
-    requires first { Holding (model first.old) hands.first }
-    requires second { Holding (model second.old) hands.second }
-    ensures { Turned (setting S.Symbol.kind S.Carried.carriage codes.now (memory_of words.old sides.old)) call.now result.0 begun.old begun.new (model first.old) (model first.new) (model second.old) (model second.new) hands result.1 (length tables.old.now) (length tables.new.now) }
+) -> Entry<S>
+    ensures { Turned (setting S.Symbol.kind S.Carried.carriage codes.now (memory_of words.old sides.old)) call.now result first.old first.new second.old second.new (length tables.old.now) (length tables.new.now) }
 {
-    let Hands {
-        first: held,
-        second: other,
-    } = hands;
+    let order = &call.order;
     match call.block {
-        Which::First => {
-            let made = ask(
-                first,
-                &mut begun.first,
-                tables,
-                held,
-                other,
-                codes,
-                words,
-                sides,
-                &call.order,
-            );
-            let Made { entry, held, other } = made;
-            (
-                entry,
-                Hands {
-                    first: held,
-                    second: other,
-                },
-            )
-        }
-        Which::Second => {
-            let made = ask(
-                second,
-                &mut begun.second,
-                tables,
-                other,
-                held,
-                codes,
-                words,
-                sides,
-                &call.order,
-            );
-            let Made { entry, held, other } = made;
-            (
-                entry,
-                Hands {
-                    first: other,
-                    second: held,
-                },
-            )
-        }
+        Which::First => first.ask(&mut second.held, tables, codes, words, sides, order),
+        Which::Second => second.ask(&mut first.held, tables, codes, words, sides, order),
     }
 }
 
 // Makes the calls one after another, and closes the blocks whose permits are left in hand.
 fn serve<'a, S: Carried>(
-    first: &mut Block<'a, S>,
-    second: &mut Block<'a, S>,
+    first: &mut Desk<'a, S>,
+    second: &mut Desk<'a, S>,
     mut tables: &'a mut [S],
     codes: &[Pile],
     calls: &[Call<S>],
@@ -218,41 +154,19 @@ fn serve<'a, S: Carried>(
     sides: &mut [S],
     log: &mut [Entry<S>],
 ) -> Left
-    requires first { model first.old ≡ opened S.Symbol.kind 0 0 [] }
-    requires second { model second.old ≡ opened S.Symbol.kind 0 0 [] }
+    requires first { Unopened S.Symbol.kind first.old }
+    requires second { Unopened S.Symbol.kind second.old }
     requires long { length log.old ≡ length calls.now }
-    ensures { Session (setting S.Symbol.kind S.Carried.carriage codes.now (memory_of words.old sides.old)) (length tables.old) calls.now log.new result }
+    ensures session { Session (setting S.Symbol.kind S.Carried.carriage codes.now (memory_of words.old sides.old)) (length tables.old) calls.now log.new result }
+    ensures first { first.new.held ≡ None }
+    ensures second { second.new.held ≡ None }
 {
-    let mut begun = Begun {
-        first: false,
-        second: false,
-    };
-    let mut hands = Hands {
-        first: None,
-        second: None,
-    };
     for (i, call) in calls.iter().enumerate() {
-        let (entry, next) = turn(
-            first,
-            second,
-            &mut begun,
-            &mut tables,
-            hands,
-            codes,
-            words,
-            sides,
-            call,
-        );
-        hands = next;
-        log[i] = entry;
+        log[i] = turn(first, second, &mut tables, codes, words, sides, call);
     }
-    let Hands {
-        first: held,
-        second: other,
-    } = hands;
     Left {
-        first: end(first, held),
-        second: end(second, other),
+        first: first.end(),
+        second: second.end(),
     }
 }
 
@@ -302,9 +216,17 @@ fn open_and_serve<S: Carried>(
     requires { length log.old ≡ length calls.now }
     ensures { Session (setting S.Symbol.kind S.Carried.carriage codes.now (memory_of words.old sides.old)) (length tables.old) calls.now log.new result }
 {
-    let mut first = Block::open(0, 0, &mut []);
-    let mut second = Block::open(0, 0, &mut []);
-    serve(
+    let mut first = Desk {
+        block: Block::open(0, 0, &mut []),
+        begun: false,
+        held: None,
+    };
+    let mut second = Desk {
+        block: Block::open(0, 0, &mut []),
+        begun: false,
+        held: None,
+    };
+    let left = serve(
         &mut first,
         &mut second,
         tables,
@@ -313,5 +235,18 @@ fn open_and_serve<S: Carried>(
         words,
         sides,
         log,
-    )
+    );
+    let Desk {
+        block: _,
+        begun: _,
+        held,
+    } = first;
+    let_go(held);
+    let Desk {
+        block: _,
+        begun: _,
+        held,
+    } = second;
+    let_go(held);
+    left
 }
