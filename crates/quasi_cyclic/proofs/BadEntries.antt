@@ -1,15 +1,16 @@
--- The search for the first bad entry, one step on and at the end.
-use Rattle.std.proofs.Common.{◌≡◌, ℕ, ◌+◌, ◌<◌, ◌≤◌, true, false, List, length, get_or, drop, ℤ, Some, None, ◌∙◌}
-use Rattle.std.proofs.lemmas.List.{at_drop_more, at_drop_all}
-use Rattle.std.proofs.lemmas.Bool.{cond-true, cond-false}
+-- The first bad entry, by the library's word for a first place.
+use Rattle.std.proofs.Common.{◌≡◌, ℕ, ◌+◌, Bool, true, false, not, cond, List, [], ◌∷◌, ℤ, Some, refl, ap, ◌∙◌}
+use Rattle.std.specs.List.{position, position_from}
+use Rattle.std.proofs.lemmas.Iterator.Adapters.{position_from-zero}
 use Rattle.quasi_cyclic.specs.Entries.{entry_fits, first_bad_entry}
 
-module _ (z i : ℕ) (es : List ℤ) where
-  pub first_bad_more : (d : ℤ) → i < length es → entry_fits z (get_or es i d) ≡ true → first_bad_entry z i (drop i es) ≡ first_bad_entry z (i + 1) (drop (i + 1) es)
-  first_bad_more d h g = at_drop_more (first_bad_entry z i) es i d h ∙ cond-true _ _ _ g
+swapped : {A : Type 0} (b : Bool) (x y : A) → cond (not b) x y ≡ cond b y x
+swapped true x y = refl
+swapped false x y = refl
 
-  pub first_bad_here : (d : ℤ) → i < length es → entry_fits z (get_or es i d) ≡ false → first_bad_entry z i (drop i es) ≡ Some i
-  first_bad_here d h g = at_drop_more (first_bad_entry z i) es i d h ∙ cond-false _ _ _ g
+bad_from : (z i : ℕ) (es : List ℤ) → position_from (λ e. not (entry_fits z e)) i es ≡ first_bad_entry z i es
+bad_from z i [] = refl
+bad_from z i (e ∷ es) = swapped (entry_fits z e) (Some i) (position_from (λ e. not (entry_fits z e)) (i + 1) es) ∙ ap (λ o. cond (entry_fits z e) o (Some i)) (bad_from z (i + 1) es)
 
-  pub first_bad_end : length es ≤ i → first_bad_entry z i (drop i es) ≡ None
-  first_bad_end h = at_drop_all (first_bad_entry z i) es i h
+pub first_bad : (z : ℕ) (es : List ℤ) → position (λ e. not (entry_fits z e)) es ≡ first_bad_entry z 0 es
+first_bad z es = position_from-zero (λ e. not (entry_fits z e)) es ∙ bad_from z 0 es

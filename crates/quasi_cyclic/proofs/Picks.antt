@@ -1,33 +1,29 @@
 -- A row read square by square along its line.
-use Rattle.std.proofs.Common.{◌≡◌, ℕ, suc, ◌+◌, ◌*◌, ◌<◌, ◌≤◌, true, List, ◌++◌, length, get_or, drop, ℤ, pos, negsuc, Some, None, Option, sym, ap, ◌∙◌, add-mul, one-mul, arith}
-use Rattle.std.specs.List.{slice_get}
-use Rattle.std.proofs.lemmas.List.{at_drop_more, at_drop_all}
-use Rattle.std.proofs.lemmas.Bool.{ltb-true}
-use Rattle.quasi_cyclic.specs.Entries.{shift_of, turned, square_row, line_row, entry_fits}
+use Rattle.std.proofs.Common.{◌≡◌, ℕ, ◌+◌, ◌*◌, ◌<◌, ◌≤◌, true, List, [], ◌∷◌, ◌++◌, length, get_or, ℤ, pos, Some, None, Option, refl, ap, ◌∙◌, add-mul, one-mul, mul-le-mul_right, arith}
+use Rattle.std.specs.List.{filter_map, cons_option, enumerate_from}
+use Rattle.std.specs.Option.{option_map}
+use Rattle.std.proofs.lemmas.List.{get_or_default}
+use Rattle.std.proofs.lemmas.List.FromFn.{length-enumerate_from, get_or-enumerate_from}
+use Rattle.quasi_cyclic.specs.Entries.{shift_of, turned, square_row, column_in, line_row, entry_fits}
 
--- the shift of an entry in range is below z
-pub shift_fits : (z s : ℕ) (e : ℤ) → entry_fits z e ≡ true → Some s ≡ shift_of e → s < z
-shift_fits z s (pos t) f q = let same : s ≡ t = cc in omega (arith, ltb-true t z f)
-shift_fits z s (negsuc t) f q = absurd (let o : ◌≡◌ {A = ℕ} 0 1 = cc in omega arith)
+one_square : (z r j : ℕ) (o : Option ℕ) (row : List ℕ) → cons_option (option_map (λ s. j * z + turned z r s) o) row ≡ square_row z r (j * z) o ++ row
+one_square z r j (Some s) row = refl
+one_square z r j None row = refl
 
-module _ (z r j : ℕ) (es : List ℤ) (h : j < length es) where
-  abbrev rest : List ℕ
-  rest = line_row z r ((j + 1) * z) (drop (j + 1) es)
+picked_from : (z r j : ℕ) (es : List ℤ) → filter_map (column_in z r) (enumerate_from j es) ≡ line_row z r (j * z) es
+picked_from z r j [] = refl
+picked_from z r j (e ∷ es) =
+    ap (cons_option (column_in z r (j, e))) (picked_from z r (j + 1) es ∙ ap (λ start. line_row z r start es) (add-mul j 1 z ∙ ap (λ v. j * z + v) (one-mul z)))
+    ∙ one_square z r j (shift_of e) (line_row z r (j * z + z) es)
 
-  from : (o : Option ℕ) → o ≡ shift_of (get_or es j (pos 0)) → line_row z r (j * z) (drop j es) ≡ square_row z r (j * z) o ++ rest
-  from o e =
-      at_drop_more (line_row z r (j * z)) es j (pos 0) h
-      ∙ ap (λ v. square_row z r (j * z) (shift_of (get_or es j (pos 0))) ++ line_row z r v (drop (j + 1) es)) (sym (add-mul j 1 z ∙ ap (λ v. j * z + v) (one-mul z)))
-      ∙ ap (λ o. square_row z r (j * z) o ++ rest) (sym e)
+pub picked_row : (z r : ℕ) (es : List ℤ) → filter_map (column_in z r) (enumerate_from 0 es) ≡ line_row z r 0 es
+picked_row z r es = picked_from z r 0 es ∙ ap (λ start. line_row z r start es) (omega arith)
 
-  pub pick_here : (s : ℕ) → Some s ≡ shift_of (get_or es j (pos 0)) → slice_get (line_row z r (j * z) (drop j es)) 0 ≡ Some (j * z + turned z r s)
-  pick_here s e = ap (λ row. slice_get row 0) (from (Some s) e)
-
-  pub pick_next : (s left : ℕ) → Some s ≡ shift_of (get_or es j (pos 0)) → slice_get (line_row z r (j * z) (drop j es)) (suc left) ≡ slice_get rest left
-  pick_next s left e = ap (λ row. slice_get row (suc left)) (from (Some s) e)
-
-  pub pick_skip : (left : ℕ) → None ≡ shift_of (get_or es j (pos 0)) → slice_get (line_row z r (j * z) (drop j es)) left ≡ slice_get rest left
-  pick_skip left e = ap (λ row. slice_get row left) (from None e)
-
-pub pick_end : (z r j left : ℕ) (es : List ℤ) → length es ≤ j → slice_get (line_row z r (j * z) (drop j es)) left ≡ None
-pick_end z r j left es h = ap (λ row. slice_get row left) (at_drop_all (line_row z r (j * z)) es j h)
+-- what the squares of a line must keep, at a place and its entry
+pub at_place : (z : ℕ) (es : List ℤ) (p : ℕ × ℤ) (k : ℕ) → k < length (enumerate_from 0 es) → p ≡ get_or (enumerate_from 0 es) k p → length es * z ≤ 512 → ((k : ℕ) → k < length es → entry_fits z (get_or es k (pos 0)) ≡ true) → (p.0 * z ≤ 512) × (entry_fits z p.1 ≡ true)
+at_place z es p k h e narrow right =
+    let u : k < length es = omega (arith, length-enumerate_from 0 es) in
+    let here : p ≡ (0 + k, get_or es k p.1) = e ∙ get_or-enumerate_from 0 es k p u in
+    let same : p.1 ≡ get_or es k (pos 0) = ap (λ q. q.1) here ∙ get_or_default es k p.1 (pos 0) u in
+    let j : p.0 ≡ k = omega (arith, ap (λ q. q.0) here) in
+    (omega (arith, narrow, ap (λ j. j * z) j, mul-le-mul_right {m = k} {n = length es} z (omega arith)), ap (entry_fits z) same ∙ right k u)

@@ -1,7 +1,7 @@
 // Base entries: their squares, and how they are judged.
-ghost use Rattle.std.specs.Prelude.{◌≡◌, ◌*◌, ◌<◌, ◌≤◌, Ok, Err, MatchResult, nat_le};
+ghost use Rattle.std.specs.Prelude.{◌≡◌, ◌*◌, ◌<◌, ◌≤◌, Ok, Err, MatchResult, nat_le, not, position};
 ghost use Rattle.codes.specs.Refusals.{meaning};
-ghost use Rattle.quasi_cyclic.specs.Entries.{shift_of, turned, base_fits, entry_fits, first_bad_entry, squares, judged_entries};
+ghost use Rattle.quasi_cyclic.specs.Entries.{shift_of, turned, base_fits, entry_fits, squares, judged_entries};
 
 use codes::{MAX_COLUMNS, MAX_ONES, MAX_ROWS, Refusal};
 
@@ -34,16 +34,11 @@ fn entry_fits(z: usize, e: i16) -> bool
     shift(e).map_or(e == -1, |s| usize::from(s) < z)
 }
 
-// A loop: of `position` it is not proved that a signed entry is what the list holds.
+// The place of the first entry that breaks its rule.
 fn first_bad_entry(z: usize, entries: &[i16]) -> Option<usize>
-    ensures { result ≡ first_bad_entry z 0 entries.now }
+    ensures { result ≡ position (λ e. not (entry_fits z e)) entries.now }
 {
-    for (i, e) in entries.iter().enumerate() {
-        if !entry_fits(z, *e) {
-            return Some(i);
-        }
-    }
-    None
+    entries.iter().position(|e| !entry_fits(z, *e))
 }
 
 // Whether a product is at most a bound, however large it is.
