@@ -8,6 +8,7 @@ mod record;
 mod refusal;
 mod row;
 mod shape;
+mod squares;
 #[cfg(test)]
 mod tests;
 
@@ -18,3 +19,4 @@ pub use record::Record;
 pub use refusal::Refusal;
 pub use row::RowColumns;
 pub use shape::{MAX_COLUMNS, MAX_ONES, MAX_ROWS, Shape};
+pub use squares::Squares;

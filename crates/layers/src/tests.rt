@@ -7,7 +7,7 @@ ghost use Rattle.layers.specs.Layers.{squares_fit, interleaved, stack_fits, stac
 
 use crate::interleaved::interleave;
 use crate::stacked::stack;
-use codes::{Code, Listed, Record, Refusal, Rows};
+use codes::{Code, Listed, Record, Refusal, Rows, Squares};
 use std::test::Fail;
 
 fn one(row: u16, column: u16) -> Record {
@@ -17,15 +17,13 @@ fn one(row: u16, column: u16) -> Record {
 // The column at place i of row r of the interleaved code.
 fn turned_column<C: Code + Drop>(
     below: C,
-    a: usize,
-    b: usize,
-    z: usize,
+    squares: Squares,
     r: usize,
     i: usize,
 ) -> Result<Option<usize>, Refusal>
-    ensures { MatchResult result (λ d. d ≡ column_at (interleaved a b z (C.Rows.matrix below)) r i) (λ e. (squares_fit a b z (shape_of (C.Rows.matrix below)) ≡ false) × (meaning e ≡ bad_shape)) }
+    ensures { MatchResult result (λ d. d ≡ column_at (interleaved squares.a squares.b squares.z (C.Rows.matrix below)) r i) (λ e. (squares_fit squares.a squares.b squares.z (shape_of (C.Rows.matrix below)) ≡ false) × (meaning e ≡ bad_shape)) }
 {
-    let layer = interleave(below, a, b, z)?;
+    let layer = interleave(below, squares)?;
     Ok(layer.column(r, i))
 }
 
@@ -45,13 +43,11 @@ fn stacked_weight<P: Code + Drop, Q: Code + Drop>(
 fn pile_holds<P: Code + Drop, Q: Code + Drop>(
     first: P,
     second: Q,
-    a: usize,
-    b: usize,
-    z: usize,
+    squares: Squares,
     r: usize,
     c: usize,
 ) -> Result<bool, Refusal> {
-    let upper = interleave(first, a, b, z)?;
+    let upper = interleave(first, squares)?;
     let pile = stack(upper, second)?;
     Ok(pile.holds(r, c))
 }
@@ -68,17 +64,27 @@ fn interleaved_rows(rt: HostRuntime) -> Result<(), Fail> {
     ];
     let mut code = Listed::smallest();
     code.make(3, 6, &records)?;
-    assert_eq!(rt; turned_column(code, 1, 2, 3, 0, 0)?, Some(2));
-    assert_eq!(rt; turned_column(code, 1, 2, 3, 0, 1)?, Some(1));
-    assert_eq!(rt; turned_column(code, 1, 2, 3, 2, 1)?, Some(5));
-    assert_eq!(rt; turned_column(code, 1, 2, 3, 3, 0)?, None);
+    let squares = Squares { a: 1, b: 2, z: 3 };
+    assert_eq!(rt; turned_column(code, squares, 0, 0)?, Some(2));
+    assert_eq!(rt; turned_column(code, squares, 0, 1)?, Some(1));
+    assert_eq!(rt; turned_column(code, squares, 2, 1)?, Some(5));
+    assert_eq!(rt; turned_column(code, squares, 3, 0)?, None);
     assert_eq!(rt;
-        turned_column(code, 3, 6, 1, 0, 0)?,
+        turned_column(code, Squares { a: 3, b: 6, z: 1 }, 0, 0)?,
         Some(1),
         "squares of one place turn nothing"
     );
     assert_eq!(rt;
-        turned_column(code, usize::MAX, 2, 3, 0, 0),
+        turned_column(
+            code,
+            Squares {
+                a: usize::MAX,
+                b: 2,
+                z: 3
+            },
+            0,
+            0
+        ),
         Err(Refusal::BadShape)
     );
     Ok(())
@@ -104,7 +110,7 @@ fn pile_of_lists_holds(
     p.make(3, 6, upper)?;
     let mut q = Listed::smallest();
     q.make(1, 6, lower)?;
-    pile_holds(p, q, 1, 2, 3, r, c)
+    pile_holds(p, q, Squares { a: 1, b: 2, z: 3 }, r, c)
 }
 
 #[test]

@@ -28,7 +28,7 @@ granted (Err c) k = Err c
 
 abbrev pub base_code : Base → Result Matrix Cause
 base_code (a_list m n records) = granted (judged_records m n (vec_items records)) (listed m n (vec_items records))
-base_code (a_circulant a b z entries) = granted (judged_entries a b z (vec_items entries)) (quasi_cyclic a b z (vec_items entries))
+base_code (a_circulant s entries) = granted (judged_entries s.a s.b s.z (vec_items entries)) (quasi_cyclic s.a s.b s.z (vec_items entries))
 
 abbrev pub base_matrix : BaseCode → Matrix
 base_matrix (of_list l) = listed_matrix l
@@ -36,7 +36,7 @@ base_matrix (of_circulant q) = circulant_matrix q
 
 pub base_lawful : (k : BaseCode) → Lawful (base_matrix k)
 base_lawful (of_list l) = listed_lawful l.m l.n l.records.now l.sized l.rising l.few
-base_lawful (of_circulant q) = circulant_lawful q.a q.b q.z q.ones q.entries.now q.sized q.counted q.few
+base_lawful (of_circulant q) = circulant_lawful q.squares.a q.squares.b q.squares.z q.ones q.entries.now q.sized q.counted q.few
 
 abbrev pub base_told : Result BaseCode Refusal → Result Matrix Cause
 base_told (Ok k) = Ok (base_matrix k)

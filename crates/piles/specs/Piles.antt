@@ -12,11 +12,11 @@ use Rattle.codes.specs.Refusals.{Cause, meaning, bad_shape}
 use Rattle.codes.specs.Shapes.{shape_of}
 use Rattle.codes.specs.declared.refusal.Refusal.{Refusal}
 use Rattle.codes.specs.declared.shape.Shape.{Shape}
+use Rattle.codes.specs.declared.squares.Squares.{Squares}
 use Rattle.layers.specs.Layers.{squares_fit, interleaved, stack_fits, stacked}
 use Rattle.piles.specs.Bases.{base_code}
 use Rattle.piles.specs.declared.pile.Pile.{Pile}
 use Rattle.piles.specs.declared.pile.Pile.TheVariants.{Single, Interleaved, Stacked, InterleavedInStack, InterleavedStack}
-use Rattle.piles.specs.declared.pile.Squares.{Squares}
 
 abbrev pub turned : Squares → Result Matrix Cause → Result Matrix Cause
 turned s (Err c) = Err c

@@ -22,13 +22,13 @@ use Rattle.std.specs.Str.Parse.{digits_value}
 use Rattle.std.specs.List.{position}
 use Rattle.std.specs.Str.{bytes_eq}
 use Rattle.codes.specs.declared.record.Record.{Record}
+use Rattle.codes.specs.declared.squares.Squares.{Squares}
 use Rattle.script.specs.Numbers.{numeral, number_of}
 use Rattle.script.specs.Words.{word, past, blank}
 use Rattle.piles.specs.declared.base.Base.{Base}
 use Rattle.piles.specs.declared.base.Base.TheVariants.{Listed, Circulant}
 use Rattle.piles.specs.declared.pile.Pile.{Pile}
 use Rattle.piles.specs.declared.pile.Pile.TheVariants.{Single, Interleaved, Stacked, InterleavedInStack, InterleavedStack}
-use Rattle.piles.specs.declared.pile.Squares.{Squares}
 
 pub data WrittenBase : Type 0 where
   a_list : ℕ → ℕ → List Record → WrittenBase
@@ -43,7 +43,7 @@ pub data WrittenPile : Type 0 where
 
 abbrev pub base_written : Base → WrittenBase
 base_written (Listed m n records) = a_list m n (vec_items records)
-base_written (Circulant a b z entries) = a_circulant (record { a = a; b = b; z = z }) (vec_items entries)
+base_written (Circulant s entries) = a_circulant s (vec_items entries)
 
 abbrev pub pile_written : Pile → WrittenPile
 pile_written (Single p) = single (base_written p)

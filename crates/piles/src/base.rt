@@ -1,5 +1,5 @@
 // The codes at the bottom of a pile, by what they are made of.
-use codes::Record;
+use codes::{Record, Squares};
 
 #[derive(Drop)]
 pub enum Base {
@@ -9,11 +9,9 @@ pub enum Base {
         n: usize,
         records: Vec<Record>,
     },
-    // The code of a lines of b squares of z rows and columns that the base entries give.
+    // The code of these squares that the base entries give.
     Circulant {
-        a: usize,
-        b: usize,
-        z: usize,
+        squares: Squares,
         entries: Vec<i16>,
     },
 }

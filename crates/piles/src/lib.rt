@@ -14,7 +14,8 @@ mod written;
 
 pub use base::Base;
 pub use calls::{take_code, tell_row};
-pub use pile::{Pile, Squares};
+pub use codes::Squares;
+pub use pile::Pile;
 pub use policy::{PolicyName, read_policy};
 pub use reading::{read_pile, read_row};
 pub use row::row_of;

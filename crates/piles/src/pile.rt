@@ -1,13 +1,6 @@
 // A pile of layers over codes, by what it is made of.
 use crate::base::Base;
-
-// The sizes of an interleaved layer: a lines of b squares, each of z rows and columns.
-#[derive(Clone, Copy)]
-pub struct Squares {
-    pub a: usize,
-    pub b: usize,
-    pub z: usize,
-}
+use codes::Squares;
 
 #[derive(Drop)]
 pub enum Pile {

@@ -7,8 +7,9 @@ ghost use Rattle.script.specs.Words.{word, past};
 ghost use Rattle.piles.specs.Readings.{base_written, pile_written, squares_from, squares_of, listed_of, circulant_of, base_of, halves_of, bases_of, interleaved_word, interleaved_of, stacked_of, pile_of};
 
 use crate::base::Base;
-use crate::pile::{Pile, Squares};
+use crate::pile::Pile;
 use crate::written::{read_list, split_at_byte};
+use codes::Squares;
 use script::{is_blank, is_word, read_number, split_word};
 use std::alloc::{AllocError, Global};
 
@@ -64,10 +65,10 @@ fn read_circulant(heap: Global, line: &[u8]) -> Result<Option<Base>, AllocError>
     ensures { IfOk result (λ o. option_map base_written o ≡ circulant_of line.now) }
 {
     let (squares, rest) = read_squares(line);
-    let Some(Squares { a, b, z }) = squares else {
+    let Some(squares) = squares else {
         return Ok(None);
     };
-    Ok(read_list(heap, rest)?.map(|entries| Base::Circulant { a, b, z, entries }))
+    Ok(read_list(heap, rest)?.map(|entries| Base::Circulant { squares, entries }))
 }
 
 // listed .. · circulant ..

@@ -6,8 +6,8 @@ ghost use Rattle.piles.specs.Bases.{base_code};
 
 use crate::base::Base;
 use crate::code::BaseCode;
-use crate::pile::{Pile, Squares};
-use codes::{Code, Refusal};
+use crate::pile::Pile;
+use codes::{Code, Refusal, Squares};
 use layers::{interleave, stack};
 
 pub trait Task {
@@ -28,7 +28,7 @@ fn with_interleaved<C: Code + Drop, T: Task>(
 ) -> Result<T::Out, Refusal>
     ensures { Done T.Task.does task.old task.new (turned squares (Ok (C.Rows.matrix below))) result }
 {
-    let layer = interleave(below, squares.a, squares.b, squares.z)?;
+    let layer = interleave(below, squares)?;
     Ok(task.run(&layer))
 }
 
@@ -53,7 +53,7 @@ fn with_interleaved_in_stack<C: Code + Drop, T: Task>(
 ) -> Result<T::Out, Refusal>
     ensures { Done T.Task.does task.old task.new (joined (turned squares (Ok (C.Rows.matrix below))) (base_code second.now)) result }
 {
-    let upper = interleave(below, squares.a, squares.b, squares.z)?;
+    let upper = interleave(below, squares)?;
     with_stack(upper, BaseCode::of(second)?, task)
 }
 

@@ -56,13 +56,13 @@ module _ (a b z : ℕ) (es : List ℤ) (s : Sizes a b z (length es)) where
 
 -- the same of a code, whose ghost fields give the facts
 module _ (k : QuasiCyclic) (r : ℕ) where
-  pub within : r < k.a * k.z → (r / k.z * k.b + k.b ≤ length k.entries.now) × (length k.entries.now ≤ 131072)
-  within = line_within k.a k.b k.z k.entries.now (sizes k.a k.b k.z (length k.entries.now) k.sized) r
+  pub within : r < k.squares.a * k.squares.z → (r / k.squares.z * k.squares.b + k.squares.b ≤ length k.entries.now) × (length k.entries.now ≤ 131072)
+  within = line_within k.squares.a k.squares.b k.squares.z k.entries.now (sizes k.squares.a k.squares.b k.squares.z (length k.entries.now) k.sized) r
 
-  pub no_line : k.a * k.z ≤ r → Line k.a k.b k.z k.entries.now r []
-  no_line = line_past k.a k.b k.z k.entries.now (sizes k.a k.b k.z (length k.entries.now) k.sized) k.right r
+  pub no_line : k.squares.a * k.squares.z ≤ r → Line k.squares.a k.squares.b k.squares.z k.entries.now r []
+  no_line = line_past k.squares.a k.squares.b k.squares.z k.entries.now (sizes k.squares.a k.squares.b k.squares.z (length k.entries.now) k.sized) k.right r
 
-  pub the_line : (n : ℕ) → k.b ≡ n → r < k.a * k.z → Line k.a k.b k.z k.entries.now r (take n (drop (r / k.z * k.b) k.entries.now))
+  pub the_line : (n : ℕ) → k.squares.b ≡ n → r < k.squares.a * k.squares.z → Line k.squares.a k.squares.b k.squares.z k.entries.now r (take n (drop (r / k.squares.z * k.squares.b) k.entries.now))
   the_line n e h =
-      let P : ℕ → Type 0 = λ n. Line k.a k.b k.z k.entries.now r (take n (drop (r / k.z * k.b) k.entries.now)) in
-      subst P e (line_at k.a k.b k.z k.entries.now (sizes k.a k.b k.z (length k.entries.now) k.sized) k.right r h)
+      let P : ℕ → Type 0 = λ n. Line k.squares.a k.squares.b k.squares.z k.entries.now r (take n (drop (r / k.squares.z * k.squares.b) k.entries.now)) in
+      subst P e (line_at k.squares.a k.squares.b k.squares.z k.entries.now (sizes k.squares.a k.squares.b k.squares.z (length k.entries.now) k.sized) k.right r h)

@@ -6,4 +6,4 @@ use Rattle.quasi_cyclic.specs.Entries.{quasi_cyclic}
 use Rattle.quasi_cyclic.specs.declared.circulant.QuasiCyclic.{QuasiCyclic}
 
 abbrev pub circulant_matrix : QuasiCyclic → Matrix
-circulant_matrix k = quasi_cyclic k.a k.b k.z k.entries.now
+circulant_matrix k = quasi_cyclic k.squares.a k.squares.b k.squares.z k.entries.now

@@ -11,7 +11,7 @@
 --   base_fits        whether a code may have these sizes and a list of so many entries
 --   entry_fits       whether an entry keeps its rule: from -1 to z - 1
 --   first_bad_entry  the place of the first entry that breaks its rule, where the list begins at place i
---   squares          how many squares are not empty
+--   filled_squares   how many squares are not empty
 --   judged_entries   the answer of a making
 use Rattle.std.specs.Prelude.{ℕ, ◌+◌, ◌*◌, ◌/◌, ◌%◌, Bool, cond, ◌&&◌, List, [], ◌∷◌, ◌++◌, length, take, drop, ℤ, pos, negsuc, Some, None, sum_by, Option, Result, ◌==◌, nat_le, nat_lt}
 use Rattle.std.specs.Option.{option_map}
@@ -58,8 +58,8 @@ abbrev pub first_bad_entry : ℕ → ℕ → List ℤ → Option ℕ
 first_bad_entry z i [] = None
 first_bad_entry z i (e ∷ es) = cond (entry_fits z e) (first_bad_entry z (i + 1) es) (Some i)
 
-abbrev pub squares : List ℤ → ℕ
-squares es = sum_by (λ e. filled (shift_of e)) es
+abbrev pub filled_squares : List ℤ → ℕ
+filled_squares es = sum_by (λ e. filled (shift_of e)) es
 
 abbrev pub judged_entries : ℕ → ℕ → ℕ → List ℤ → Result (Unit {0}) Cause
-judged_entries a b z es = judged (base_fits a b z (length es)) (first_bad_entry z 0 es) (squares es * z)
+judged_entries a b z es = judged (base_fits a b z (length es)) (first_bad_entry z 0 es) (filled_squares es * z)

@@ -16,7 +16,7 @@ use Rattle.codes.specs.Matrix.{Row, Lawful, Apart, ones}
 use Rattle.codes.specs.MatrixLaws.{not_member}
 use Rattle.codes.specs.Tables.{table_ones, table_lawful}
 use Rattle.codes.specs.Totals.{Σ, Σ_same, Σ_list, Σ_blocks, Σ_swap, Σ_const}
-use Rattle.quasi_cyclic.specs.Entries.{shift_of, filled, turned, square_row, line_row, line_of, quasi_cyclic, base_fits, squares}
+use Rattle.quasi_cyclic.specs.Entries.{shift_of, filled, turned, square_row, line_row, line_of, quasi_cyclic, base_fits, filled_squares}
 
 pub record Sizes (a b z len : ℕ) : Type 0 where
   pub some_a : 1 ≤ a
@@ -44,7 +44,7 @@ square_length : (z r s : ℕ) (o : Option ℕ) (xs : List ℕ) → length (squar
 square_length z r s (Some t) xs = omega arith
 square_length z r s None xs = omega arith
 
-pub line_length : (z r s : ℕ) (es : List ℤ) → length (line_row z r s es) ≡ squares es
+pub line_length : (z r s : ℕ) (es : List ℤ) → length (line_row z r s es) ≡ filled_squares es
 line_length z r s [] = refl
 line_length z r s (e ∷ es) = square_length z r s (shift_of e) (line_row z r (s + z) es) ∙ ap (λ v. filled (shift_of e) + v) (line_length z r (s + z) es) ∙ sym (sum_by-cons (λ e. filled (shift_of e)) e es)
 
@@ -84,7 +84,7 @@ whole_line a b x h = omega (arith, mul-le-mul_right b h, suc-mul x b)
 
 -- the squares of line x that are not empty
 abbrev line_squares : ℕ → List ℤ → ℕ → ℕ
-line_squares b es x = squares (take b (drop (x * b) es))
+line_squares b es x = filled_squares (take b (drop (x * b) es))
 
 one_line : (a b x : ℕ) (es : List ℤ) → length es ≡ a * b → x < a → line_squares b es x ≡ Σ (λ j. filled (shift_of (slice_index_or es (x * b + j) (pos 0)))) 0 b
 one_line a b x es e h =
@@ -95,7 +95,7 @@ one_line a b x es e h =
     ∙ Σ_same (λ j. filled (shift_of (slice_index_or line j (pos 0)))) (λ j. filled (shift_of (slice_index_or es (x * b + j) (pos 0)))) 0 b
     (λ j _ u. ap (λ e. filled (shift_of e)) (get_or-take b (drop (x * b) es) j (pos 0) (omega arith) ∙ get_or-drop (x * b) es j (pos 0)))
 
-all_lines : (a b : ℕ) (es : List ℤ) → length es ≡ a * b → Σ (line_squares b es) 0 a ≡ squares es
+all_lines : (a b : ℕ) (es : List ℤ) → length es ≡ a * b → Σ (line_squares b es) 0 a ≡ filled_squares es
 all_lines a b es e =
     Σ_same (line_squares b es) (λ x. Σ (λ j. filled (shift_of (slice_index_or es (x * b + j) (pos 0)))) 0 b) 0 a (λ x _ u. one_line a b x es e (omega arith))
     ∙ sym (Σ_blocks (λ i. filled (shift_of (slice_index_or es i (pos 0)))) 0 a b)
@@ -103,7 +103,7 @@ all_lines a b es e =
     ∙ ap (λ n. Σ (λ i. filled (shift_of (slice_index_or es i (pos 0)))) 0 n) (sym e)
     ∙ Σ_list (λ e. filled (shift_of e)) (pos 0) es
 
-pub circulant_ones : (a b z : ℕ) (es : List ℤ) → length es ≡ a * b → ones (quasi_cyclic a b z es) ≡ squares es * z
+pub circulant_ones : (a b z : ℕ) (es : List ℤ) → length es ≡ a * b → ones (quasi_cyclic a b z es) ≡ filled_squares es * z
 circulant_ones a b z es e =
     table_ones (a * z) (b * z) (λ r. line_row z r 0 (line_of b z es r))
     ∙ Σ_same (λ r. length (line_row z r 0 (line_of b z es r))) (λ r. line_squares b es (r / z)) 0 (a * z) (λ r _ _. line_length z r 0 (line_of b z es r))
@@ -112,15 +112,15 @@ circulant_ones a b z es e =
     ∙ Σ_same (λ x. Σ (λ y. line_squares b es ((x * z + y) / z)) 0 z) (λ x. Σ (λ y. line_squares b es x) 0 z) 0 a
     (λ x _ _. Σ_same (λ y. line_squares b es ((x * z + y) / z)) (λ y. line_squares b es x) 0 z (λ y _ u. ap (line_squares b es) (div-mul-add x z y (omega arith))))
     ∙ Σ_swap (λ x y. line_squares b es x) 0 a 0 z
-    ∙ Σ_same (λ y. Σ (line_squares b es) 0 a) (λ y. squares es) 0 z (λ y _ _. all_lines a b es e)
-    ∙ Σ_const (squares es) 0 z
-    ∙ mul_comm z (squares es)
+    ∙ Σ_same (λ y. Σ (line_squares b es) 0 a) (λ y. filled_squares es) 0 z (λ y _ _. all_lines a b es e)
+    ∙ Σ_const (filled_squares es) 0 z
+    ∙ mul_comm z (filled_squares es)
 
 some_product : (b z : ℕ) → 1 ≤ b → 1 ≤ z → 1 ≤ b * z
 some_product zero z h k = absurd (omega arith)
 some_product (suc b) z h k = omega (arith, suc-mul b z)
 
-pub circulant_lawful : (a b z n : ℕ) (es : List ℤ) → base_fits a b z (length es) ≡ true → n ≡ squares es * z → n ≤ 4096 → Lawful (quasi_cyclic a b z es)
+pub circulant_lawful : (a b z n : ℕ) (es : List ℤ) → base_fits a b z (length es) ≡ true → n ≡ filled_squares es * z → n ≤ 4096 → Lawful (quasi_cyclic a b z es)
 circulant_lawful a b z n es f count few =
     let s = sizes a b z (length es) f in
     table_lawful (a * z) (b * z) (λ r. line_row z r 0 (line_of b z es r))

@@ -1,9 +1,9 @@
 // Base entries: their squares, and how they are judged.
 ghost use Rattle.std.specs.Prelude.{◌≡◌, ◌*◌, ◌<◌, ◌≤◌, Ok, Err, MatchResult, nat_le, not, position};
 ghost use Rattle.codes.specs.Refusals.{meaning};
-ghost use Rattle.quasi_cyclic.specs.Entries.{shift_of, turned, base_fits, entry_fits, squares, judged_entries};
+ghost use Rattle.quasi_cyclic.specs.Entries.{shift_of, turned, base_fits, entry_fits, filled_squares, judged_entries};
 
-use codes::{MAX_COLUMNS, MAX_ONES, MAX_ROWS, Refusal};
+use codes::{MAX_COLUMNS, MAX_ONES, MAX_ROWS, Refusal, Squares};
 
 // The shift of an entry's square, none where the square is empty.
 pub(crate) fn shift(e: i16) -> Option<u16>
@@ -22,8 +22,8 @@ pub(crate) fn turned(z: usize, r: usize, s: usize) -> usize
 }
 
 // How many squares are not empty.
-pub(crate) fn squares(entries: &[i16]) -> usize
-    ensures { result ≡ squares entries.now }
+pub(crate) fn filled_squares(entries: &[i16]) -> usize
+    ensures { result ≡ filled_squares entries.now }
 {
     entries.iter().filter(|e| shift(**e).is_some()).count()
 }
@@ -48,9 +48,10 @@ fn product_within(x: usize, y: usize, bound: usize) -> bool
     x.checked_mul(y).is_some_and(|p| p <= bound)
 }
 
-fn base_fits(a: usize, b: usize, z: usize, len: usize) -> bool
-    ensures { result ≡ base_fits a b z len }
+fn base_fits(squares: Squares, len: usize) -> bool
+    ensures { result ≡ base_fits squares.a squares.b squares.z len }
 {
+    let Squares { a, b, z } = squares;
     a >= 1
         && b >= 1
         && z >= 1
@@ -59,18 +60,18 @@ fn base_fits(a: usize, b: usize, z: usize, len: usize) -> bool
         && a.checked_mul(b) == Some(len)
 }
 
-// The number of ones of the code that these sizes and entries give, or why there is none.
-pub(crate) fn judge(a: usize, b: usize, z: usize, entries: &[i16]) -> Result<usize, Refusal>
-    ensures { MatchResult result (λ ones. (judged_entries a b z entries.now ≡ Ok tt) × (ones ≡ squares entries.now * z)) (λ e. judged_entries a b z entries.now ≡ Err (meaning e)) }
+// The number of ones of the code that these squares and entries give, or why there is none.
+pub(crate) fn judge(squares: Squares, entries: &[i16]) -> Result<usize, Refusal>
+    ensures { MatchResult result (λ ones. (judged_entries squares.a squares.b squares.z entries.now ≡ Ok tt) × (ones ≡ filled_squares entries.now * squares.z)) (λ e. judged_entries squares.a squares.b squares.z entries.now ≡ Err (meaning e)) }
 {
-    if !base_fits(a, b, z, entries.len()) {
+    if !base_fits(squares, entries.len()) {
         return Err(Refusal::BadShape);
     }
-    if let Some(i) = first_bad_entry(z, entries) {
+    if let Some(i) = first_bad_entry(squares.z, entries) {
         return Err(Refusal::BadEntry(i));
     }
-    squares(entries)
-        .checked_mul(z)
+    filled_squares(entries)
+        .checked_mul(squares.z)
         .filter(|ones| *ones <= MAX_ONES)
         .ok_or(Refusal::BadShape)
 }

@@ -1,12 +1,12 @@
 // The edges of a quasi-cyclic code: what its making refuses, and what it then answers.
 use crate::circulant::QuasiCyclic;
-use codes::{Code, Refusal, Rows};
+use codes::{Code, Refusal, Rows, Squares};
 use std::test::Fail;
 
 // What a making of these sizes and entries is refused by, if it is.
 fn refusal(a: usize, b: usize, z: usize, entries: &[i16]) -> Option<Refusal> {
     let mut code = QuasiCyclic::smallest();
-    code.make(a, b, z, entries).err()
+    code.make(Squares { a, b, z }, entries).err()
 }
 
 #[test]
@@ -35,7 +35,7 @@ fn refused_by_too_many_ones(rt: HostRuntime) {
 #[test]
 fn read_by_rows(rt: HostRuntime) -> Result<(), Fail> {
     let mut code = QuasiCyclic::smallest();
-    code.make(1, 2, 3, &[1, 0])?;
+    code.make(Squares { a: 1, b: 2, z: 3 }, &[1, 0])?;
     assert_eq!(rt;
         (code.column(0, 0), code.column(0, 1), code.column(0, 2)),
         (Some(1), Some(3), None)
@@ -43,7 +43,7 @@ fn read_by_rows(rt: HostRuntime) -> Result<(), Fail> {
     assert_eq!(rt; (code.column(1, 0), code.column(1, 1)), (Some(2), Some(4)));
     assert_eq!(rt; (code.column(2, 0), code.column(2, 1)), (Some(0), Some(5)));
     assert!(rt; code.holds(2, 5) && !code.holds(0, 0) && !code.holds(3, 0));
-    code.make(3, 1, 1, &[-1, 0, -1])?;
+    code.make(Squares { a: 3, b: 1, z: 1 }, &[-1, 0, -1])?;
     assert_eq!(rt;
         (
             code.weight(0),

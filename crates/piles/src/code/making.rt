@@ -18,9 +18,9 @@ impl<'a> BaseCode<'a> {
                 code.make(*m, *n, records.as_slice())?;
                 Ok(BaseCode::Listed(code))
             }
-            Base::Circulant { a, b, z, entries } => {
+            Base::Circulant { squares, entries } => {
                 let mut code = QuasiCyclic::smallest();
-                code.make(*a, *b, *z, entries.as_slice())?;
+                code.make(*squares, entries.as_slice())?;
                 Ok(BaseCode::Circulant(code))
             }
         }

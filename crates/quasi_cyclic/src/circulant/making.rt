@@ -6,7 +6,7 @@ ghost use Rattle.quasi_cyclic.specs.Entries.{quasi_cyclic, judged_entries};
 
 use crate::circulant::QuasiCyclic;
 use crate::entries::judge;
-use codes::Refusal;
+use codes::{Refusal, Squares};
 
 impl<'a> QuasiCyclic<'a> {
     // The smallest code: one empty square of one row and one column.
@@ -14,24 +14,20 @@ impl<'a> QuasiCyclic<'a> {
         ensures { circulant_matrix result ≡ quasi_cyclic 1 1 1 (negsuc 0 ∷ []) }
     {
         QuasiCyclic {
-            a: 1,
-            b: 1,
-            z: 1,
+            squares: Squares { a: 1, b: 1, z: 1 },
             entries: &[-1],
             ones: 0,
         }
     }
 
-    // Makes this the code of a lines of b squares of z rows and columns that the entries give, or refuses and leaves it as it is.
-    pub fn make(&mut self, a: usize, b: usize, z: usize, entries: &'a [i16]) -> Result<(), Refusal>
-        ensures answer { told result ≡ judged_entries a b z entries.now }
-        ensures code { MatchResult result (λ _. circulant_matrix self.new ≡ quasi_cyclic a b z entries.now) (λ _. self.new ≡ self.old) }
+    // Makes this the code of these squares that the entries give, or refuses and leaves it as it is.
+    pub fn make(&mut self, squares: Squares, entries: &'a [i16]) -> Result<(), Refusal>
+        ensures answer { told result ≡ judged_entries squares.a squares.b squares.z entries.now }
+        ensures code { MatchResult result (λ _. circulant_matrix self.new ≡ quasi_cyclic squares.a squares.b squares.z entries.now) (λ _. self.new ≡ self.old) }
     {
-        let ones = judge(a, b, z, entries)?;
+        let ones = judge(squares, entries)?;
         *self = QuasiCyclic {
-            a,
-            b,
-            z,
+            squares,
             entries,
             ones,
         };

@@ -8,7 +8,7 @@ ghost use Rattle.quasi_cyclic.specs.EntryLaws.{circulant_lawful};
 ghost use Rattle.quasi_cyclic.specs.Lines.{Line};
 
 use crate::circulant::QuasiCyclic;
-use crate::entries::{shift, squares, turned};
+use crate::entries::{filled_squares, shift, turned};
 use codes::{Code, Rows, Shape};
 
 // The column that row r holds of the square at place j of its line, none where the square is empty.
@@ -38,13 +38,13 @@ impl<'a> QuasiCyclic<'a> {
     fn rows(&self) -> usize
         ensures { result ≡ height (circulant_matrix self.now) }
     {
-        self.a * self.z
+        self.squares.a * self.squares.z
     }
 
     fn columns(&self) -> usize
         ensures { result ≡ (circulant_matrix self.now).width }
     {
-        self.b * self.z
+        self.squares.b * self.squares.z
     }
 
     fn ones(&self) -> usize
@@ -55,13 +55,13 @@ impl<'a> QuasiCyclic<'a> {
 
     // The base entries of the squares that hold row r, none where r is no row.
     fn line(&self, r: usize) -> &'a [i16]
-        ensures { Line self.now.a self.now.b self.now.z self.now.entries.now r result.now }
+        ensures { Line self.now.squares.a self.now.squares.b self.now.squares.z self.now.entries.now r result.now }
     {
-        if r >= self.a * self.z {
+        if r >= self.squares.a * self.squares.z {
             return &[];
         }
-        let first = r / self.z * self.b;
-        let end = first + self.b;
+        let first = r / self.squares.z * self.squares.b;
+        let end = first + self.squares.b;
         &self.entries[first..end]
     }
 }
@@ -69,7 +69,7 @@ impl<'a> QuasiCyclic<'a> {
 impl<'a> Rows for QuasiCyclic<'a> {
     ghost matrix = { λ k. circulant_matrix k };
 
-    ghost lawful = { λ k. circulant_lawful k.a k.b k.z k.ones k.entries.now k.sized k.counted k.few };
+    ghost lawful = { λ k. circulant_lawful k.squares.a k.squares.b k.squares.z k.ones k.entries.now k.sized k.counted k.few };
 
     fn shape(&self) -> Shape {
         Shape {
@@ -80,11 +80,11 @@ impl<'a> Rows for QuasiCyclic<'a> {
     }
 
     fn weight(&self, r: usize) -> usize {
-        squares(self.line(r))
+        filled_squares(self.line(r))
     }
 
     fn column(&self, r: usize, i: usize) -> Option<usize> {
-        pick(self.line(r), self.z, r, i)
+        pick(self.line(r), self.squares.z, r, i)
     }
 }
 

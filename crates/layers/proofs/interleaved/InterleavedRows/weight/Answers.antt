@@ -7,4 +7,4 @@ pub returns : goal.returns
 returns g c =
     let x = c.args.self.now in
     let k = g.C.Rows.matrix x.below in
-    c.weight.ensures ∙ ap (weight k) c.turn.ensures ∙ sym (weight_turned x.a x.b x.z k x.fit c.args.r)
+    c.weight.ensures ∙ ap (weight k) c.turn.ensures ∙ sym (weight_turned x.squares.a x.squares.b x.squares.z k x.fit c.args.r)

@@ -5,4 +5,4 @@ use Rattle.quasi_cyclic.proofs.circulant.QuasiCyclic.ones.Goals as goal
 pub returns : goal.returns
 returns c =
     let x = c.args.self.now in
-    x.counted ∙ sym (circulant_ones x.a x.b x.z x.entries.now (sizes x.a x.b x.z (length x.entries.now) x.sized).whole)
+    x.counted ∙ sym (circulant_ones x.squares.a x.squares.b x.squares.z x.entries.now (sizes x.squares.a x.squares.b x.squares.z (length x.entries.now) x.sized).whole)
