@@ -9,7 +9,7 @@ ghost use Rattle.quasi_cyclic.specs.Lines.{Line};
 
 use crate::circulant::QuasiCyclic;
 use crate::entries::{filled_squares, shift, turned};
-use codes::{Code, Rows, Shape};
+use codes::{Code, Rows, Shape, Squares};
 
 // The column that row r holds of the square at place j of its line, none where the square is empty.
 fn column_in(z: usize, r: usize, j: usize, e: i16) -> Option<usize>
@@ -57,11 +57,12 @@ impl<'a> QuasiCyclic<'a> {
     fn line(&self, r: usize) -> &'a [i16]
         ensures { Line self.now.squares.a self.now.squares.b self.now.squares.z self.now.entries.now r result.now }
     {
-        if r >= self.squares.a * self.squares.z {
+        let Squares { a, b, z } = self.squares;
+        if r >= a * z {
             return &[];
         }
-        let first = r / self.squares.z * self.squares.b;
-        let end = first + self.squares.b;
+        let first = r / z * b;
+        let end = first + b;
         &self.entries[first..end]
     }
 }
