@@ -11,12 +11,10 @@ use Rattle.codes.specs.Matrix.{Matrix, Lawful}
 use Rattle.codes.specs.RecordLaws.{listed_lawful}
 use Rattle.codes.specs.Records.{listed, judged_records}
 use Rattle.codes.specs.Refusals.{Cause, meaning}
-use Rattle.codes.specs.declared.listed.Listed.{Listed}
 use Rattle.codes.specs.declared.refusal.Refusal.{Refusal}
 use Rattle.quasi_cyclic.specs.Circulants.{circulant_matrix}
 use Rattle.quasi_cyclic.specs.Entries.{quasi_cyclic, judged_entries}
 use Rattle.quasi_cyclic.specs.EntryLaws.{circulant_lawful}
-use Rattle.quasi_cyclic.specs.declared.circulant.QuasiCyclic.{QuasiCyclic}
 use Rattle.piles.specs.declared.base.Base.{Base}
 use Rattle.piles.specs.declared.base.Base.TheVariants.{Listed as a_list, Circulant as a_circulant}
 use Rattle.piles.specs.declared.code.BaseCode.{BaseCode}

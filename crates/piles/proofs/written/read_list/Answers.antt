@@ -1,4 +1,4 @@
-use Rattle.std.proofs.Common.{◌≡◌, ℕ, length, vec_items, sym, ap, ◌∙◌, rules}
+use Rattle.std.proofs.Common.{◌≡◌, length, vec_items, sym, ap, ◌∙◌, rules}
 use Rattle.script.specs.Words.{first_word}
 use Rattle.piles.specs.Readings.{words_of, each_of}
 use Rattle.piles.proofs.Listings.{after, after_none, item_read, no_item, no_word}

@@ -1,6 +1,6 @@
 use Rattle.std.proofs.Common.{◌≡◌, ℕ, ◌+◌, ◌-◌, ◌<◌, ◌≢◌, length, drop, sym, refl, ap, ◌∙◌, arith, length-set, length-drop, take_all, get_or-set_other, get_or-set_same, below_more}
 use Rattle.codes.specs.Records.{lower}
-use Rattle.codes.proofs.Starts.{begun, lower_zero, lower_most, lower_more}
+use Rattle.codes.proofs.Starts.{begun, lower_zero, lower_more}
 use Rattle.codes.proofs.listed.starts.row_starts.Goals as goal
 use Rattle.codes.proofs.listed.starts.row_starts.Goals.{After-lower-p}
 
