@@ -21,8 +21,8 @@ impl Forest {
         ensures { Labelled result.up (λ c. c) }
     {
         let mut up = [0; MAX_COLUMNS];
-        for c in 0..MAX_COLUMNS {
-            up[c] = c as u16;
+        for (c, root) in up.iter_mut().enumerate() {
+            *root = c as u16;
         }
         Forest { up }
     }

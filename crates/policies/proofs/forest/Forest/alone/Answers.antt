@@ -4,7 +4,7 @@ use Rattle.policies.proofs.forest.Forest.alone.Goals as goal
 
 pub loop-c-preserved : goal.loop-c-preserved
 loop-c-preserved c =
-    let up = c.loop-c.up in
+    let up = c.loop-c.root-items in
     let i = c.loop-c.c in (
       length-set up i i ∙ c.loop-c.invariant.0,
       below_more (λ k. at (set up i i) k ≡ k) i

@@ -3,4 +3,4 @@ use Rattle.policies.specs.Numbers.{at}
 use Rattle.policies.proofs.forest.Forest.alone.Given as goal
 
 abbrev pub invariant-loop-c : goal.invariant-loop-c
-invariant-loop-c l = (length l.up ≡ 512) × ((k : ℕ) → k < l.c → at l.up k ≡ k)
+invariant-loop-c l = (length l.root-items ≡ 512) × ((k : ℕ) → k < l.c → at l.root-items k ≡ k)
