@@ -42,6 +42,7 @@ pub(crate) fn places(uses: &Uses, m: usize) -> [Option<u8>; 512]
     requires { m ≤ 256 }
     ensures { Placed uses.now 0 m result }
 {
+    // From the highest row down, so that the lowest stays.
     let mut rows = [None; 512];
     for r in (0..m).rev() {
         if let Some(c) = uses.column_of(r) {
@@ -90,6 +91,7 @@ impl Found {
 fn fill_first<S: Symbol>(sides: &mut [S], m: usize, z: S)
     ensures { sides.new ≡ wiped z m sides.old }
 {
+    // Not by `fill`, which asks for a clone that cannot fail: of a symbol only a copy is known.
     let k = m.min(sides.len());
     for side in &mut sides[..k] {
         *side = z;

@@ -1,8 +1,8 @@
 // The rows in working memory: which hold a column, and one row added to others.
-ghost use Rattle.std.specs.Prelude.{◌≡◌, ◌*◌, ◌<◌, ◌≤◌, false, map, length, slice_index_or, slice_set};
+ghost use Rattle.std.specs.Prelude.{◌≡◌, ◌*◌, ◌<◌, ◌≤◌, map, length, slice_index_or, slice_set};
 ghost use Rattle.std.specs.List.{range_with_len};
 ghost use Rattle.bits.specs.Sets.{xors, row, put_row};
-ghost use Rattle.method.specs.Sets.{has, count};
+ghost use Rattle.method.specs.Sets.{count};
 ghost use Rattle.policies.specs.Shown.{shown};
 ghost use Rattle.search.specs.Rows.{holding, Added};
 

@@ -1,5 +1,5 @@
 // The whole search.
-ghost use Rattle.std.specs.Prelude.{◌≡◌, ℕ, ◌*◌, ◌≤◌, Bool, List, length, None};
+ghost use Rattle.std.specs.Prelude.{◌≡◌, ◌*◌, ◌≤◌, Bool, List, length, None};
 ghost use Rattle.refusals.specs.Refusals.{first_of};
 ghost use Rattle.codes.specs.Matrix.{height};
 ghost use Rattle.method.specs.Method.{start};
@@ -36,6 +36,7 @@ impl<S: Symbol> Elimination<'_, S> {
         };
         let free = self.free.len() as u32;
         bits::wipe(self.words);
+        // Through a reference of its own, since a proof forgets what a field holds once it is lent.
         let sides = &mut *self.sides;
         let m = sides.len();
         if clashes(sides, &uses) {
