@@ -16,6 +16,7 @@ fn obey_show<S: Symbol, P>(block: &Block<'_, S>, permit: &Permit, place: u32) ->
     ensures { (choice : Matrix → Choice P) (k : Matrix) (ws ss : ℕ) (p : P) → Obeyed S.Symbol.kind choice k ws ss (model block.now) (model block.now) p p (Some permit.now) (Some permit.now) (Order.Show place) result }
 {
     let mut symbol = S::zero();
+    // Not by `map`: the search proves arm by arm.
     match block.show(permit, place, &mut symbol) {
         Ok(()) => Entry::Shown(Ok(symbol)),
         Err(fault) => Entry::Shown(Err(fault)),

@@ -60,6 +60,7 @@ impl<'a, S: Symbol> Block<'a, S> {
         if stamp != self.marks.stamp {
             return Err(Fault::OtherStamp(self.marks.stamp));
         }
+        // By index: of a slice's `get_mut` a proof does not know what was written.
         let p = place as usize;
         if p >= self.marks.n {
             return Err(Fault::NoPlace(place));
