@@ -21,7 +21,7 @@ pub struct Elimination<'m, S> {
     pub additions: u32,
     ghost high: { uses.unused.width ≡ length sides.now },
     ghost few: { length sides.now ≤ 256 },
-    ghost within: { 8 * length sides.now ≤ length words.now },
+    ghost within: { length words.now ≡ 8 * length sides.now },
     ghost room: { length pivots.items + count (shown active) ≤ 512 },
     ghost low: { (i : ℕ) → i < length pivots.items → slice_index pivots.items i < active.width },
 }

@@ -86,7 +86,7 @@ impl<S: Symbol> Heard<'_, S> {
     ) -> Elimination<'m, S>
         requires wide { length self.now.table.now ≤ 512 }
         requires few { length sides.old ≤ 256 }
-        requires within { 8 * length sides.old ≤ length words.old }
+        requires within { length words.old ≡ 8 * length sides.old }
         ensures words { result.words.ghost_name ≡ words.entry.ghost_name }
         ensures sides { result.sides.ghost_name ≡ sides.entry.ghost_name }
         ensures lines { result.words.now ≡ words.old }

@@ -67,7 +67,9 @@ impl<S: Symbol> Elimination<'_, S> {
     pub(crate) fn holders(&self, c: usize) -> Columns
         ensures { shown result ≡ map (holding self.now.words.now c) (range_with_len 0 (length self.now.sides.now)) }
     {
-        holders(self.words, self.sides.len(), c)
+        let m = self.sides.len();
+        // All the words, by a length from which the compiler sees that no row ends past it.
+        holders(&self.words[..8 * m], m, c)
     }
 
     // Row r is used for column c, and added to every other row that holds it.
