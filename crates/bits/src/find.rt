@@ -60,7 +60,7 @@ pub fn alone(set: &Set) -> Option<usize>
     least(&rest).is_none().then_some(c)
 }
 
-// How many numbers the set holds.
+// How many numbers the set holds. A loop: of `map(..).sum()` neither the bound nor the sum was proved.
 pub fn count(set: &Set) -> usize
     ensures { result ≡ members set.now }
 {

@@ -48,7 +48,7 @@ pub fn put_line(words: &mut [u64], r: usize, line: &Set)
     }
 }
 
-// Writes eight words.
+// Writes eight words, by a range: the library does not say what a write through `as_chunks_mut` leaves.
 fn store(words: &mut [u64], at: usize, line: &Set)
     requires { at + 8 ≤ length words.old }
     ensures { words.new ≡ put_chunk at words.old line.now }

@@ -14,7 +14,7 @@ pub struct Listed<'a> {
     m: usize,
     n: usize,
     records: &'a [Record],
-    // Where the records of each row begin, and of one row more.
+    // Where the records of each row begin, and of one row more, so that no question bisects.
     starts: [u16; ROW_ENDS],
     ghost sized: { sizes_fit m n ≡ true },
     ghost rising: { is_some (first_bad m n None 0 records.now) ≡ false },

@@ -10,6 +10,7 @@ use crate::pile::Pile;
 use codes::{Code, Refusal, Squares};
 use layers::{interleave, stack};
 
+// A trait, since a closure cannot be generic over the code that it is handed.
 pub trait Task {
     type Out;
 

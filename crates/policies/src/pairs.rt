@@ -9,7 +9,8 @@ ghost use Rattle.policies.specs.Shown.{shown};
 use crate::columns::Columns;
 use codes::Code;
 
-// The active columns of a row as far as it is read, while there are at most two.
+// The active columns of a row as far as it is read, while there are at most two: a vector of two would need the same three
+// cases where the pair is read.
 #[derive(Clone, Copy)]
 enum Few {
     Zero,

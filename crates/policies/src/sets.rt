@@ -53,7 +53,7 @@ impl Columns {
         Columns::empty(width.min(512))
     }
 
-    // All of the numbers below the width, which is 512 at most.
+    // All of the numbers below the width, which is 512 at most, put in one by one: filled words would need the last one apart.
     pub fn all(width: usize) -> Columns
         ensures { shown result ≡ replicate (min width 512) true }
     {

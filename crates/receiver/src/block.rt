@@ -10,7 +10,7 @@ mod steps;
 
 pub use steps::open_fault;
 
-// Whether a permit is out.
+// Whether a permit is out; an enum, since other kinds of permit may come.
 #[derive(Clone, Copy, PartialEq, Eq, Debug)]
 pub enum Out {
     Nothing,

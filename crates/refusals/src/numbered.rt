@@ -6,7 +6,7 @@ pub trait Numbered {
     // What the refusal means.
     ghost meaning: { Self → Refusal };
 
-    // The number of the refusal.
+    // The number of the refusal, as the rules fix it: an impl is the one place that gives each case its own.
     fn number(&self) -> u8
         ensures { result ≡ (meaning self.now).number };
 

@@ -22,7 +22,8 @@ pub enum Answer {
     Figure(u64),
 }
 
-// The longest slice that is made for a packet. Any longer one is refused for its length alike.
+// The longest slice that is made for a packet, on the stack, since performing a call is handed no allocator. Any longer one
+// is refused for its length alike.
 const LONGEST: usize = 1024;
 
 // Writes a packet into a slice of this length.

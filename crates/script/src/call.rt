@@ -122,7 +122,8 @@ fn parse_figure(line: &[u8]) -> Option<Call>
     })
 }
 
-// The call of a line; none where the line is not understood.
+// The call of a line; none where the line is not understood. Not by a `match` on the word: of `b"figure"` its arm knows the
+// length alone.
 pub fn parse(heap: Global, line: &[u8]) -> Result<Option<Call>, AllocError>
     ensures { IfOk result (λ o. option_map asked o ≡ understood line.now) }
 {

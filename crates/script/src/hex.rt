@@ -81,7 +81,7 @@ fn read_byte(high: u8, low: u8) -> Option<u8>
     Some(value_of(high)? * 16 + value_of(low)?)
 }
 
-// The bytes of digits; none where one is no digit, or one is left over.
+// The bytes of digits; none where one is no digit, or one is left over, which the pattern tells without an index.
 fn read_pairs(heap: Global, digits: &[u8]) -> Result<Option<Vec<u8>>, AllocError>
     ensures { IfOk result (λ o. option_map vec_items o ≡ pairs_of digits.now) }
 {

@@ -3,6 +3,7 @@ ghost use Rattle.std.specs.Prelude.{◌≡◌, length};
 
 use crate::answer::Report;
 
+// An array, since a search allocates nothing.
 #[derive(Clone, Copy)]
 pub struct Found {
     pub(crate) report: Report,

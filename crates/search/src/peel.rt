@@ -122,7 +122,7 @@ impl<S: Symbol> Elimination<'_, S> {
         self.pivots.push(c as u16);
     }
 
-    // One step; false where no column is active.
+    // One step; false where no column is active, as the loop below reads it at once.
     fn advance<C: Code, P: Policy>(&mut self, code: &C, policy: &mut P) -> bool
         requires { Going S.Symbol.kind self.old }
         ensures memory { SameMemory self.old self.new }

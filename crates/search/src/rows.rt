@@ -18,7 +18,7 @@ pub(crate) fn holders(words: &[u64], m: usize, c: usize) -> Columns
     passing(m, |r| bits::row_has(words, r, c))
 }
 
-// Adds a set and a symbol to row q.
+// Adds a set and a symbol to row q. No method: one would have to say that all else of an elimination stays.
 fn add_line<S: Symbol>(words: &mut [u64], sides: &mut [S], q: usize, line: &bits::Set, side: &S)
     requires { q < length sides.old }
     ensures words { words.new ≡ put_row words.old q (xors (row words.old q) line.now) }

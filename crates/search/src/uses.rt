@@ -4,6 +4,7 @@ ghost use Rattle.policies.specs.Shown.{shown};
 
 use policies::Columns;
 
+// The set stands beside the columns, since a policy is shown it.
 #[derive(Clone, Copy)]
 pub struct Uses {
     pub unused: Columns,

@@ -17,6 +17,7 @@ use crate::solving::solve_pile;
 use piles::{Pile, PolicyName};
 use receiver::{Block, Fault, Permit, Stamp, Unclosed, Unsolved};
 
+// Not by `map_or`: a case of a generic enum handed to it is not covered by the borrow checker yet. The same of a run.
 fn obey_packet<S: Carried>(block: &mut Block<'_, S>, stamp: Stamp, bytes: &Vec<u8>) -> Entry<S>
     ensures { (ps : List Pile) (memory : Memory) (q other : Option Permit) → Acted (setting S.Symbol.kind S.Carried.carriage ps memory) (model block.old) (model block.new) q q other (Order.Packet stamp bytes.now) result }
 {
@@ -35,7 +36,7 @@ fn obey_run<S: Carried>(block: &mut Block<'_, S>, stamp: Stamp, bytes: &Vec<u8>)
     }
 }
 
-// Shows a place under a permit.
+// Shows a place under a permit. Not by `map`: the search proves arm by arm.
 fn show_under<S: Carried>(block: &Block<'_, S>, permit: &Permit, place: u32) -> Entry<S>
     ensures { ShownUnder S.Symbol.kind (model block.now) permit.now place result }
 {

@@ -55,6 +55,7 @@ impl Carried for Cell {
     }
 }
 
+// Three impls alike: a body in the trait would be proved for any carriage, and taking nothing does not keep to that of cells.
 impl Carried for Bit {
     ghost carriage = { no_cells };
 

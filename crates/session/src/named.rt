@@ -17,6 +17,7 @@ impl Policy for Named {
     ghost names = { λ k p a u. named_names p.name k p a u };
 
     fn name<C: Code>(&mut self, code: &C, active: &Columns, unused: &Columns) -> Option<usize> {
+        // Each arm makes a policy of another type.
         match self.name {
             PolicyName::First => First.name(code, active, unused),
             PolicyName::Heaviest => Heaviest.name(code, active, unused),

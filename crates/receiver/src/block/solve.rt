@@ -26,6 +26,7 @@ impl<'a, S: Symbol> Block<'a, S> {
     ) -> Result<Found, Unsolved>
         ensures { Sought S.Symbol.kind P.Policy.choice (C.Rows.matrix code.now) (model self.now) policy.old policy.new words.old words.new sides.old sides.new result }
     {
+        // The case is written out: through a `From` of `Fault` the line would hide which is made.
         if self.marks.out.is_out() {
             return Err(Unsolved::Refused(Fault::PermitOut(self.marks.stamp)));
         }
