@@ -186,6 +186,8 @@ impl<'a, S: Carried> Desk<'a, S> {
     }
 
     // Makes a call on an opened block.
+    // The codes and the memory stay apart: a slice that is lent keeps its length, and a struct of them would have each
+    // contract say so.
     pub(crate) fn obey(
         &mut self,
         other: &mut Option<Permit>,
