@@ -104,12 +104,12 @@ impl<'a, S: Carried> Desk<'a, S> {
         ensures told { result ≡ is_some self.old.held }
         ensures held { self.new.held ≡ None }
     {
-        match self.held.take() {
-            Some(permit) => match self.block.close(permit) {
-                Ok(()) => true,
-                Err(_kept) => unreachable(),
-            },
-            None => false,
+        let Some(permit) = self.held.take() else {
+            return false;
+        };
+        match self.block.close(permit) {
+            Ok(()) => true,
+            Err(_kept) => unreachable(),
         }
     }
 }
