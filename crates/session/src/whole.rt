@@ -1,5 +1,5 @@
 // A whole session: one call after another on two blocks.
-ghost use Rattle.std.specs.Prelude.{◌≡◌, List, length, None, replicate, is_some, Option};
+ghost use Rattle.std.specs.Prelude.{◌≡◌, List, [], length, None, replicate, is_some, Option};
 ghost use Rattle.std.specs.Option.{option_map};
 ghost use Rattle.receiver.specs.History.{Event, Opened};
 ghost use Rattle.receiver.specs.View.{model};
@@ -204,6 +204,18 @@ fn empty<S: Symbol>(symbols: &mut [S])
     search::wipe(symbols, n);
 }
 
+// A desk whose block was never opened, over a table of no places.
+fn unopened<'a, S: Carried>(none: &'a mut [S]) -> Desk<'a, S>
+    requires { none.old ≡ [] }
+    ensures { Unopened S.Symbol.kind result }
+{
+    Desk {
+        block: Block::open(0, 0, none),
+        begun: false,
+        held: None,
+    }
+}
+
 // Begins with two blocks that were never opened.
 fn open_and_serve<S: Carried>(
     codes: &[Pile],
@@ -216,16 +228,8 @@ fn open_and_serve<S: Carried>(
     requires { length log.old ≡ length calls.now }
     ensures { Session (setting S.Symbol.kind S.Carried.carriage codes.now (memory_of words.old sides.old)) (length tables.old) calls.now log.new result }
 {
-    let mut first = Desk {
-        block: Block::open(0, 0, &mut []),
-        begun: false,
-        held: None,
-    };
-    let mut second = Desk {
-        block: Block::open(0, 0, &mut []),
-        begun: false,
-        held: None,
-    };
+    let mut first = unopened(&mut []);
+    let mut second = unopened(&mut []);
     let left = serve(
         &mut first,
         &mut second,
@@ -236,6 +240,7 @@ fn open_and_serve<S: Carried>(
         sides,
         log,
     );
+    // Twice: a function may not take by value a struct that holds both a `&mut` and a ghost field.
     let Desk {
         block: _,
         begun: _,
