@@ -14,7 +14,7 @@ use piles::Pile;
 use receiver::{Block, Permit, Stamp, open_fault};
 use symbols::Symbol;
 
-// Whether each block's permit was left in its hand at the end of a session.
+// Whether each block's permit was left in its hand at the end of a session: two facts told to the caller.
 #[derive(Clone, Copy, PartialEq, Eq, Debug)]
 pub struct Left {
     pub first: bool,
@@ -161,6 +161,7 @@ fn serve<'a, S: Carried>(
     ensures first { first.new.held ≡ None }
     ensures second { second.new.held ≡ None }
 {
+    // Not zip with `log.iter_mut()`: of what it lent the proof then knows the length, and no element.
     for (i, call) in calls.iter().enumerate() {
         log[i] = turn(first, second, &mut tables, codes, words, sides, call);
     }
@@ -205,7 +206,7 @@ fn empty<S: Symbol>(symbols: &mut [S])
 }
 
 // A desk whose block was never opened, over a table of no places.
-fn unopened<'a, S: Carried>(none: &'a mut [S]) -> Desk<'a, S>
+fn unopened<S: Carried>(none: &mut [S]) -> Desk<'_, S>
     requires { none.old ≡ [] }
     ensures { Unopened S.Symbol.kind result }
 {
