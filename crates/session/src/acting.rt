@@ -18,6 +18,7 @@ use piles::{Pile, PolicyName};
 use receiver::{Block, Fault, Permit, Stamp, Unclosed, Unsolved};
 
 // Not by `map_or`: a case of a generic enum handed to it is not covered by the borrow checker yet. The same of a run.
+// A packet and a run have a function each: one for both would be handed the method, the order and the case.
 fn obey_packet<S: Carried>(block: &mut Block<'_, S>, stamp: Stamp, bytes: &Vec<u8>) -> Entry<S>
     ensures { (ps : List Pile) (memory : Memory) (q other : Option Permit) → Acted (setting S.Symbol.kind S.Carried.carriage ps memory) (model block.old) (model block.new) q q other (Order.Packet stamp bytes.now) result }
 {
@@ -47,7 +48,7 @@ fn show_under<S: Carried>(block: &Block<'_, S>, permit: &Permit, place: u32) -> 
     }
 }
 
-// Shows a place under the permit in a hand.
+// Shows a place under the permit in a hand. Not by `map_or`: the search then leaves `returns` open.
 fn show_in<S: Carried>(block: &Block<'_, S>, hand: &Option<Permit>, place: u32) -> Entry<S>
     ensures { ShownIn S.Symbol.kind (model block.now) hand.now place result }
 {
@@ -57,7 +58,7 @@ fn show_in<S: Carried>(block: &Block<'_, S>, hand: &Option<Permit>, place: u32) 
     }
 }
 
-// Whether two permits have the same numbers.
+// Whether two permits have the same numbers: those two say which permit it is, and its report does not.
 fn alike(held: &Option<Permit>, permit: &Permit) -> bool
     ensures { result ≡ numbers_alike held.now permit.now }
 {
@@ -70,12 +71,10 @@ fn close_under<S: Carried>(block: &mut Block<'_, S>, permit: Permit) -> (Entry<S
     requires { owns (seen (model block.old)) permit ≡ false }
     ensures { CloseRefused S.Symbol.kind (model block.old) permit (model block.new) result.0 result.1 }
 {
-    match block.close(permit) {
-        Ok(()) => unreachable(),
-        Err(Unclosed { stamp, permit }) => {
-            (Entry::Closed(Err(Fault::NotItsPermit(stamp))), permit)
-        }
-    }
+    let Err(Unclosed { stamp, permit }) = block.close(permit) else {
+        unreachable()
+    };
+    (Entry::Closed(Err(Fault::NotItsPermit(stamp))), permit)
 }
 
 // Whether a session has less working memory than a solve asks for.
@@ -101,6 +100,7 @@ fn pile_at(codes: &[Pile], code: Option<usize>) -> Option<&Pile>
 }
 
 // The entry of a solve; a permit that it gave is put in the hand, where none was.
+// Not by `map`: with the put in a closure the search leaves the clause of the hand open.
 fn solved<S: Carried>(hand: &mut Option<Permit>, answer: Result<Permit, Unsolved>) -> Entry<S>
     requires { FreeFor hand.old answer }
     ensures entry { result ≡ solved_entry answer }
@@ -117,6 +117,7 @@ fn solved<S: Carried>(hand: &mut Option<Permit>, answer: Result<Permit, Unsolved
 }
 
 impl<'a, S: Carried> Desk<'a, S> {
+    // An arm for each hand: with one call on a chosen hand the search leaves the clause `Acted` open.
     fn obey_show(&self, other: &Option<Permit>, place: u32, hand: Hand) -> Entry<S>
         ensures { (ps : List Pile) (memory : Memory) → Acted (setting S.Symbol.kind S.Carried.carriage ps memory) (model self.now.block) (model self.now.block) self.now.held self.now.held other.now (Order.Show place hand) result }
     {
@@ -131,12 +132,12 @@ impl<'a, S: Carried> Desk<'a, S> {
         ensures acted { (ps : List Pile) (memory : Memory) (other : Option Permit) → Acted (setting S.Symbol.kind S.Carried.carriage ps memory) (model self.old.block) (model self.new.block) self.old.held self.new.held other (Order.Close Own) result }
         ensures begun { self.new.begun ≡ self.old.begun }
     {
-        match self.held.take() {
-            Some(permit) => match self.block.close(permit) {
-                Ok(()) => Entry::Closed(Ok(())),
-                Err(_kept) => unreachable(),
-            },
-            None => Entry::NoPermit,
+        let Some(permit) = self.held.take() else {
+            return Entry::NoPermit;
+        };
+        match self.block.close(permit) {
+            Ok(()) => Entry::Closed(Ok(())),
+            Err(_kept) => unreachable(),
         }
     }
 
