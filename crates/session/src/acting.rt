@@ -117,14 +117,14 @@ fn solved<S: Carried>(hand: &mut Option<Permit>, answer: Result<Permit, Unsolved
 }
 
 impl<'a, S: Carried> Desk<'a, S> {
-    // An arm for each hand: with one call on a chosen hand the search leaves the clause `Acted` open.
     fn obey_show(&self, other: &Option<Permit>, place: u32, hand: Hand) -> Entry<S>
         ensures { (ps : List Pile) (memory : Memory) → Acted (setting S.Symbol.kind S.Carried.carriage ps memory) (model self.now.block) (model self.now.block) self.now.held self.now.held other.now (Order.Show place hand) result }
     {
-        match hand {
-            Hand::Own => show_in(&self.block, &self.held, place),
-            Hand::Other => show_in(&self.block, other, place),
-        }
+        let under = match hand {
+            Hand::Own => &self.held,
+            Hand::Other => other,
+        };
+        show_in(&self.block, under, place)
     }
 
     // Closes the block under the permit in its own hand.

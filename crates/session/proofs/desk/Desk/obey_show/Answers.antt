@@ -1,10 +1,14 @@
-use Rattle.std.proofs.Common.{ap}
+use Rattle.std.proofs.Common.{ap, sym, ◌≡◌}
 use Rattle.session.specs.Obeying.{in_which}
 use Rattle.session.proofs.Acts.{shown}
+use Rattle.session.proofs.desk.Desk.obey_show.Goals.{in-Own, in-Other}
 use Rattle.session.proofs.desk.Desk.obey_show.Goals as goal
 
-pub returns-in-Own : goal.returns-in-Own
-returns-in-Own g c ps memory = shown _ _ _ _ c.args.self.now.held _ _ _ (ap (λ t. in_which t c.args.self.now.held c.args.other.now) c.in-Own.is) c.show_in.ensures
-
-pub returns-in-Other : goal.returns-in-Other
-returns-in-Other g c ps memory = shown _ _ _ _ c.args.other.now _ _ _ (ap (λ t. in_which t c.args.self.now.held c.args.other.now) c.in-Other.is) c.show_in-in-Other.ensures
+pub returns : goal.returns
+returns g c ps memory =
+    let which : in_which c.args.hand c.args.self.now.held c.args.other.now ≡ c.match-hand.under.now =
+    elim c.match-hand.branch [
+      | in-Own w ↦ rw w.in-Own.is (ap (λ t. t.now) (sym w.under-is))
+      | in-Other w ↦ rw w.in-Other.is (ap (λ t. t.now) (sym w.under-is))
+    ]
+    in shown _ _ _ _ _ _ _ _ which c.show_in.ensures
