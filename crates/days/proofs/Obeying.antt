@@ -145,20 +145,11 @@ module _ {S P : Type 0} (K : Kind S) (choice : Matrix → Choice P) (k : Matrix)
         holding = λ h. subst (λ n. Holding n held) (sym same) h;
       }
 
--- a skipped order leaves everything as it was
+-- a show without a permit leaves everything as it was
 module _ {S P : Type 0} (K : Kind S) (choice : Matrix → Choice P) (k : Matrix) (nw ns : ℕ) (m : Block S) (p : P) where
-  none_or : {R : Type 0} (q : Permit) → ◌≡◌ {A = Option Permit} (Some q) None → R
-  none_or q e = cc
-
-  pub not_shown : (q : Option Permit) (order : Order S) (place : ℕ) → order ≡ Show place → q ≡ None → Obeyed K choice k nw ns m m p p q None order NoPermit
-  not_shown None order place is e =
-      subst (λ o. Obeyed K choice k nw ns m m p p None None o NoPermit) (sym is) (record { events = []; told = λ h. refl; history = λ o h s. s; holding = λ h. h })
-  not_shown (Some q) order place is e = none_or q e
-
-  pub not_closed : (q : Option Permit) (order : Order S) → order ≡ Close → q ≡ None → Obeyed K choice k nw ns m m p p q None order NoPermit
-  not_closed None order is e =
-      subst (λ o. Obeyed K choice k nw ns m m p p None None o NoPermit) (sym is) (record { events = []; told = λ h. refl; history = λ o h s. s; holding = λ h. h })
-  not_closed (Some q) order is e = none_or q e
+  pub not_shown : (q : Option Permit) (place : ℕ) → q ≡ None → Obeyed K choice k nw ns m m p p q q (Show place) NoPermit
+  not_shown None place e = record { events = []; told = λ h. refl; history = λ o h s. s; holding = λ h. h }
+  not_shown (Some q) place e = cc
 
 -- one order and its entry more
 module _ {S P : Type 0} (K : Kind S) (choice : Matrix → Choice P) (k : Matrix) (nw ns : ℕ) where

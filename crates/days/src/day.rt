@@ -1,34 +1,35 @@
 // A day on one block: its open, one call after another, and the log.
 ghost use Rattle.std.specs.Prelude.{◌≡◌, [], length, Some, None};
-ghost use Rattle.receiver.specs.declared.block.Out.TheVariants.{Nothing};
 ghost use Rattle.receiver.specs.Stands.{Stands};
 ghost use Rattle.receiver.specs.History.{Opened};
 ghost use Rattle.receiver.specs.View.{model};
-ghost use Rattle.days.specs.Days.{Holding, now_of, day_on, DayTrue};
+ghost use Rattle.days.specs.Days.{now_of, day_on, DayTrue};
 ghost use Rattle.days.specs.Whole.{Day};
 
-use crate::obey::obey;
+use crate::desk::Desk;
 use crate::order::{Entry, Order};
 use codes::Code;
 use policies::Policy;
-use receiver::{Block, Permit, Stamp};
+use receiver::{Block, Stamp};
 use symbols::Symbol;
 
-// Closes the block where a permit is left in hand.
-fn end<S: Symbol>(block: &mut Block<'_, S>, held: Option<Permit>)
-    requires { Holding (model block.old) held }
-{
-    if let Some(permit) = held {
-        match block.close(permit) {
-            Ok(()) => {}
-            Err(_kept) => unreachable(),
+impl<'a, S: Symbol> Desk<'a, S> {
+    // Closes the block where a permit is left in hand.
+    fn end(&mut self)
+        ensures { self.new.held ≡ None }
+    {
+        if let Some(permit) = self.held.take() {
+            match self.block.close(permit) {
+                Ok(()) => {}
+                Err(_kept) => unreachable(),
+            }
         }
     }
 }
 
 // Obeys one order after another, and closes the block where a permit is left in hand.
 fn serve<S: Symbol, C: Code, P: Policy>(
-    block: &mut Block<'_, S>,
+    desk: &mut Desk<'_, S>,
     code: &C,
     policy: &mut P,
     words: &mut [u64],
@@ -36,17 +37,14 @@ fn serve<S: Symbol, C: Code, P: Policy>(
     orders: &[Order<S>],
     log: &mut [Entry<S>],
 )
-    requires fresh { (model block.old).out ≡ Nothing }
-    requires long { length log.old ≡ length orders.now }
-    ensures { (o : Opened) → Stands S.Symbol.kind o [] (model block.old) → DayTrue S.Symbol.kind o (day_on S.Symbol.kind P.Policy.choice (C.Rows.matrix code.now) (length words.old) (length sides.old) (Some (now_of (model block.old) policy.old None [])) orders.now log.new) }
+    requires { length log.old ≡ length orders.now }
+    ensures day { (o : Opened) → Stands S.Symbol.kind o [] (model desk.old.block) → DayTrue S.Symbol.kind o (day_on S.Symbol.kind P.Policy.choice (C.Rows.matrix code.now) (length words.old) (length sides.old) (Some (now_of (model desk.old.block) policy.old desk.old.held [])) orders.now log.new) }
+    ensures held { desk.new.held ≡ None }
 {
-    let mut held: Option<Permit> = None;
     for (i, order) in orders.iter().enumerate() {
-        let (entry, next) = obey(block, held, code, policy, words, sides, *order);
-        held = next;
-        log[i] = entry;
+        log[i] = desk.obey(code, policy, words, sides, *order);
     }
-    end(block, held);
+    desk.end();
 }
 
 // Why a day was not begun: its open was refused, with the number and value of that refusal, or its log is not as long as its orders.
@@ -74,10 +72,15 @@ pub fn day<S: Symbol, C: Code, P: Policy>(
     if log.len() != orders.len() {
         return Err(Unbegun::LogLength(log.len()));
     }
-    let mut block = Block::open(number, stamp, table);
+    let block = Block::open(number, stamp, table);
     if let Some((cause, value)) = block.refusal() {
         return Err(Unbegun::Refused(cause, value));
     }
-    serve(&mut block, code, policy, words, sides, orders, log);
-    Ok(())
+    let mut desk = Desk { block, held: None };
+    serve(&mut desk, code, policy, words, sides, orders, log);
+    let Desk { block: _, held } = desk;
+    match held {
+        None => Ok(()),
+        Some(_permit) => unreachable(),
+    }
 }

@@ -2,6 +2,7 @@
 #![tactic(auto)]
 
 mod day;
+mod desk;
 mod obey;
 mod order;
 

@@ -1,10 +1,11 @@
 // Obeying one order on a block.
-ghost use Rattle.std.specs.Prelude.{ℕ, length, Some, None};
+ghost use Rattle.std.specs.Prelude.{ℕ, length, Some};
 ghost use Rattle.codes.specs.Matrix.{Matrix};
 ghost use Rattle.method.specs.Method.{Choice};
 ghost use Rattle.receiver.specs.View.{model};
-ghost use Rattle.days.specs.Days.{Holding, Obeyed};
+ghost use Rattle.days.specs.Days.{Obeyed};
 
+use crate::desk::Desk;
 use crate::order::{Entry, Order};
 use codes::Code;
 use policies::Policy;
@@ -23,70 +24,67 @@ fn obey_show<S: Symbol, P>(block: &Block<'_, S>, permit: &Permit, place: u32) ->
     }
 }
 
-// Closes the block under the permit in hand, which is the block's.
-fn obey_close<S: Symbol, P>(block: &mut Block<'_, S>, permit: Permit) -> Entry<S>
-    requires { Holding (model block.old) (Some permit) }
-    ensures { (choice : Matrix → Choice P) (k : Matrix) (ws ss : ℕ) (p : P) → Obeyed S.Symbol.kind choice k ws ss (model block.old) (model block.new) p p (Some permit) None Order.Close result }
-{
-    match block.close(permit) {
-        Ok(()) => Entry::Closed,
-        Err(_kept) => unreachable(),
+impl<'a, S: Symbol> Desk<'a, S> {
+    // Closes the block under the permit in hand.
+    fn obey_close<P>(&mut self) -> Entry<S>
+        ensures { (choice : Matrix → Choice P) (k : Matrix) (ws ss : ℕ) (p : P) → Obeyed S.Symbol.kind choice k ws ss (model self.old.block) (model self.new.block) p p self.old.held self.new.held Order.Close result }
+    {
+        match self.held.take() {
+            Some(permit) => match self.block.close(permit) {
+                Ok(()) => Entry::Closed,
+                Err(_kept) => unreachable(),
+            },
+            None => Entry::NoPermit,
+        }
     }
-}
 
-// Solves; the permit in hand afterwards is the one given, or the one before.
-fn obey_solve<S: Symbol, C: Code, P: Policy>(
-    block: &mut Block<'_, S>,
-    held: Option<Permit>,
-    code: &C,
-    policy: &mut P,
-    words: &mut [u64],
-    sides: &mut [S],
-) -> (Entry<S>, Option<Permit>)
-    requires { Holding (model block.old) held }
-    ensures { Obeyed S.Symbol.kind P.Policy.choice (C.Rows.matrix code.now) (length words.old) (length sides.old) (model block.old) (model block.new) policy.old policy.new held result.1 Order.Solve result.0 }
-{
-    match block.solve(code, policy, words, sides) {
-        Ok(permit) => match held {
-            None => (Entry::Solved(Ok(permit.report())), Some(permit)),
-            Some(_old) => unreachable(),
-        },
-        Err(e) => (Entry::Solved(Err(e)), held),
+    // Solves; the permit in hand afterwards is the one given, or the one before.
+    fn obey_solve<C: Code, P: Policy>(
+        &mut self,
+        code: &C,
+        policy: &mut P,
+        words: &mut [u64],
+        sides: &mut [S],
+    ) -> Entry<S>
+        ensures { Obeyed S.Symbol.kind P.Policy.choice (C.Rows.matrix code.now) (length words.old) (length sides.old) (model self.old.block) (model self.new.block) policy.old policy.new self.old.held self.new.held Order.Solve result }
+    {
+        match self.block.solve(code, policy, words, sides) {
+            Ok(permit) => {
+                let report = permit.report();
+                match self.held.replace(permit) {
+                    None => Entry::Solved(Ok(report)),
+                    Some(_old) => unreachable(),
+                }
+            }
+            Err(e) => Entry::Solved(Err(e)),
+        }
     }
-}
 
-// Obeys one order; the permit in hand is always the block's.
-pub(crate) fn obey<S: Symbol, C: Code, P: Policy>(
-    block: &mut Block<'_, S>,
-    held: Option<Permit>,
-    code: &C,
-    policy: &mut P,
-    words: &mut [u64],
-    sides: &mut [S],
-    order: Order<S>,
-) -> (Entry<S>, Option<Permit>)
-    requires { Holding (model block.old) held }
-    ensures { Obeyed S.Symbol.kind P.Policy.choice (C.Rows.matrix code.now) (length words.old) (length sides.old) (model block.old) (model block.new) policy.old policy.new held result.1 order result.0 }
-{
-    match order {
-        Order::Receive {
-            number,
-            stamp,
-            place,
-            symbol,
-        } => (
-            Entry::Received(block.receive(number, stamp, place, symbol)),
-            held,
-        ),
-        Order::Solve => obey_solve(block, held, code, policy, words, sides),
-        Order::Show { place } => match held {
-            Some(permit) => (obey_show::<S, P>(block, &permit, place), Some(permit)),
-            None => (Entry::NoPermit, None),
-        },
-        Order::Close => match held {
-            Some(permit) => (obey_close::<S, P>(block, permit), None),
-            None => (Entry::NoPermit, None),
-        },
-        Order::Renew { stamp } => (Entry::Renewed(block.renew(stamp)), held),
+    // Obeys one order.
+    pub(crate) fn obey<C: Code, P: Policy>(
+        &mut self,
+        code: &C,
+        policy: &mut P,
+        words: &mut [u64],
+        sides: &mut [S],
+        order: Order<S>,
+    ) -> Entry<S>
+        ensures { Obeyed S.Symbol.kind P.Policy.choice (C.Rows.matrix code.now) (length words.old) (length sides.old) (model self.old.block) (model self.new.block) policy.old policy.new self.old.held self.new.held order result }
+    {
+        match order {
+            Order::Receive {
+                number,
+                stamp,
+                place,
+                symbol,
+            } => Entry::Received(self.block.receive(number, stamp, place, symbol)),
+            Order::Solve => self.obey_solve(code, policy, words, sides),
+            Order::Show { place } => match &self.held {
+                Some(permit) => obey_show::<S, P>(&self.block, permit, place),
+                None => Entry::NoPermit,
+            },
+            Order::Close => self.obey_close::<P>(),
+            Order::Renew { stamp } => Entry::Renewed(self.block.renew(stamp)),
+        }
     }
 }

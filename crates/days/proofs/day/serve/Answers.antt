@@ -1,4 +1,4 @@
-use Rattle.std.proofs.Common.{◌≡◌, ◌+◌, ◌<◌, [], ◌∷◌, ◌++◌, length, take, set, Some, None, sym, refl, ap, ◌∙◌, subst, arith}
+use Rattle.std.proofs.Common.{◌≡◌, ◌+◌, ◌<◌, [], ◌∷◌, ◌++◌, length, take, set, Some, sym, refl, ap, ◌∙◌, subst, arith}
 use Rattle.std.proofs.lemmas.List.{take_more, take_more_set, take_all}
 use Rattle.receiver.specs.View.{model}
 use Rattle.days.specs.Days.{now_of, on, day_on}
@@ -6,12 +6,12 @@ use Rattle.days.proofs.Obeying.{day_more, day_true}
 use Rattle.days.proofs.day.serve.Goals as goal
 
 pub loop-i-init : goal.loop-i-init
-loop-i-init g c = record { holding = c.requires.fresh; so_far = ([], refl, λ o s. s) }
+loop-i-init g c = ([], refl, λ o s. s)
 
 pub loop-i-preserved : goal.loop-i-preserved
 loop-i-preserved g c =
     let inv = c.loop-i.invariant in
-    let done = c.obey-entry.ensures in
+    let done = c.obey.ensures in
     let i = c.loop-i.i in
     let K = g.S.Symbol.kind in
     let choice = g.P.Policy.choice in
@@ -19,28 +19,24 @@ loop-i-preserved g c =
     let nw = length c.args.words.now in
     let ns = length c.args.sides.now in
     let order = c.index-orders-i.result in
-    let entry = c.obey-entry.result.0 in
-    let h = inv.so_far.0 in
-    let x = now_of (model c.loop-i.block) c.loop-i.policy c.loop-i.held h in
-    let y = now_of (model c.obey-entry.new.block) c.obey-entry.new.policy c.obey-entry.result.1 (done.events ++ h) in
+    let entry = c.obey.result in
+    let h = inv.0 in
+    let x = now_of (model c.loop-i.desk.block) c.loop-i.policy c.loop-i.desk.held h in
+    let y = now_of (model c.obey.new.self.block) c.obey.new.policy c.obey.new.self.held (done.events ++ h) in
+    let start = Some (now_of (model c.args.desk.now.block) c.args.policy.now c.args.desk.now.held []) in
     let inside : i < length c.args.orders.now = c.loop-i-test.true in
-    let room : i < length c.loop-i.log = omega (arith, inside, c.loop-i.auto.log, c.requires.long) in
+    let room : i < length c.loop-i.log = omega (arith, inside, c.loop-i.auto.log, c.requires) in
     let told : on K choice k nw ns x order entry ≡ Some y =
     subst (λ n. on K choice k n ns x order entry ≡ Some y) c.loop-i.auto.words (subst (λ n. on K choice k (length c.loop-i.words) n x order entry ≡ Some y) c.loop-i.auto.sides (done.told h)) in
     let orders : take (i + 1) c.args.orders.now ≡ take i c.args.orders.now ++ order ∷ [] = take_more c.args.orders.now i order inside ∙ ap (λ o. take i c.args.orders.now ++ o ∷ []) (sym c.index-orders-i.is) in
-    let log : take (i + 1) (set c.loop-i.log i entry) ≡ take i c.loop-i.log ++ entry ∷ [] = take_more_set c.loop-i.log i entry room in
-    record {
-      holding = done.holding inv.holding;
-      so_far = (
-        done.events ++ h,
-        (λ j. day_on K choice k nw ns (Some (now_of (model c.args.block.now) c.args.policy.now None [])) (orders j) (log j))
-            ∙ day_more K choice k nw ns (Some (now_of (model c.args.block.now) c.args.policy.now None [])) (take i c.args.orders.now) (take i c.loop-i.log) order entry x y inv.so_far.1 told,
-        λ o s. done.history o h (inv.so_far.2 o s),
-      );
-    }
+    let log : take (i + 1) (set c.loop-i.log i entry) ≡ take i c.loop-i.log ++ entry ∷ [] = take_more_set c.loop-i.log i entry room in (
+      done.events ++ h,
+      (λ j. day_on K choice k nw ns start (orders j) (log j)) ∙ day_more K choice k nw ns start (take i c.args.orders.now) (take i c.loop-i.log) order entry x y inv.1 told,
+      λ o s. done.history o h (inv.2 o s),
+    )
 
-pub returns : goal.returns
-returns g c o s =
+pub returns-clause-day : goal.returns-clause-day
+returns-clause-day g c o s =
     let inv = c.loop-i.invariant in
     let i = c.loop-i.i in
     let K = g.S.Symbol.kind in
@@ -48,7 +44,7 @@ returns g c o s =
     let k = g.C.Rows.matrix c.args.code.now in
     let nw = length c.args.words.now in
     let ns = length c.args.sides.now in
-    let start = Some (now_of (model c.args.block.now) c.args.policy.now None []) in
+    let start = Some (now_of (model c.args.desk.now.block) c.args.policy.now c.args.desk.now.held []) in
     let orders : take i c.args.orders.now ≡ c.args.orders.now = take_all i c.args.orders.now c.loop-i-test.false in
-    let log : take i c.loop-i.log ≡ c.loop-i.log = take_all i c.loop-i.log (omega (arith, c.loop-i.auto.log, c.requires.long, c.loop-i-test.false)) in
-    day_true K choice k nw ns o _ (model c.loop-i.block) c.loop-i.policy c.loop-i.held inv.so_far.0 ((λ j. day_on K choice k nw ns start (sym orders j) (sym log j)) ∙ inv.so_far.1) (inv.so_far.2 o s).truths
+    let log : take i c.loop-i.log ≡ c.loop-i.log = take_all i c.loop-i.log (omega (arith, c.loop-i.auto.log, c.requires, c.loop-i-test.false)) in
+    day_true K choice k nw ns o _ (model c.loop-i.desk.block) c.loop-i.policy c.loop-i.desk.held inv.0 ((λ j. day_on K choice k nw ns start (sym orders j) (sym log j)) ∙ inv.1) (inv.2 o s).truths
