@@ -49,10 +49,10 @@ impl Hand {
             b"policy" => self.take_policy(heap, rest)?,
             _ => return answer_line(heap, k, line),
         };
-        match told {
-            Some(text) => Ok(Some(text)),
-            None => refuse_line(heap, k, line).map(Some),
+        if told.is_some() {
+            return Ok(told);
         }
+        refuse_line(heap, k, line).map(Some)
     }
 }
 

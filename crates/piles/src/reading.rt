@@ -96,11 +96,7 @@ fn halves(line: &[u8]) -> Option<(&[u8], &[u8])>
     let [first, ..] = behind else {
         return None;
     };
-    if is_blank(&[*last]) && is_blank(&[*first]) {
-        Some((before, behind))
-    } else {
-        None
-    }
+    (is_blank(&[*last]) && is_blank(&[*first])).then_some((before, behind))
 }
 
 // CODE + CODE, two bases.

@@ -15,9 +15,9 @@ fn digit(value: u8) -> char
     ensures value { result ≡ digit_char value }
 {
     if value < 10 {
-        (b'0' + value) as char
+        char::from(b'0' + value)
     } else {
-        (b'a' + (value - 10)) as char
+        char::from(b'a' + (value - 10))
     }
 }
 

@@ -77,7 +77,7 @@ pub fn answer_line(heap: Global, k: u64, line: &[u8]) -> Result<Option<String>, 
         return Ok(None);
     }
     match parse(heap, line)? {
-        Some(call) => Ok(Some(print(heap, &perform(&call))?)),
-        None => Ok(Some(refuse_line(heap, k, line)?)),
+        Some(call) => print(heap, &perform(&call)).map(Some),
+        None => refuse_line(heap, k, line).map(Some),
     }
 }

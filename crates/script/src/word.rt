@@ -27,10 +27,7 @@ fn word_end(text: &[u8]) -> Option<usize>
 fn skip(line: &[u8]) -> &[u8]
     ensures { result.now ≡ skip line.now }
 {
-    match word_start(line) {
-        Some(gap) => &line[gap..],
-        None => &[],
-    }
+    &line[word_start(line).unwrap_or(line.len())..]
 }
 
 // The first word, empty where there is none, and what follows it.
