@@ -2,6 +2,8 @@
 use Rattle.std.proofs.Common.{◌≡◌, ℕ, ◌+◌, ◌-◌, ◌*◌, ◌/◌, ◌%◌, ◌^◌, ◌<◌, ◌≤◌, Bool, true, false, ◌&&◌, leb, ◌⊎◌, List, length, get_or, Some, None, Option, sym, refl, ap, ◌∙◌, subst, ap₂, inl, inr, ⊎_elim, div-one, arith}
 use lib.Count.{count_trailing_zeros}
 use Rattle.std.proofs.lemmas.Bool.{cases_lt, cases_eq, both_ways, false≢true, eq-eqb, ne_eqb, le-leb, lt-leb, and_from, and_left, and_right}
+use Rattle.std.proofs.lemmas.List.{get_or_past}
+use Rattle.std.proofs.Math.Nat.{zero-div}
 use Rattle.std.specs.Prelude.{not, is_some}
 use Rattle.std.specs.Bool.{then_some}
 use Rattle.bits.specs.Sets.{bit, differ, holds, Least, Alone, Flipped, from_on}
@@ -51,6 +53,15 @@ module _ (ws : List ℕ) (low rest : ℕ) (is : rest ≡ get_or ws (low / 64) 0 
       let r : (low + j) % 64 ≡ low % 64 + j = omega arith in
       ap₂ (λ a b. bit (get_or ws a 0) b) q r ∙ sym (ap (λ w. bit w j) is ∙ bit_shifted (get_or ws (low / 64) 0) (low % 64) j)
 
+  -- nothing is left past the end
+  pub rest_within : 0 < rest → low / 64 < length ws
+  rest_within some =
+      ⊎_elim (λ (l : low / 64 < length ws). l)
+      (λ (g : length ws ≤ low / 64).
+      let left : rest ≡ 0 = is ∙ ap (λ w. w / 2 ^ (low % 64)) (get_or_past ws (low / 64) 0 g) ∙ zero-div (2 ^ (low % 64)) in
+      absurd (omega (arith, left, some)))
+      (cases_lt (low / 64) (length ws))
+
   pub clear_rest : rest ≡ 0 → (c : ℕ) → low ≤ c → c < 64 * (low / 64 + 1) → holds ws c ≡ false
   clear_rest none c l h =
       let e : c ≡ low + (c - low) = omega arith in
@@ -58,7 +69,7 @@ module _ (ws : List ℕ) (low rest : ℕ) (is : rest ≡ get_or ws (low / 64) 0 
 
   module _ (some : 0 < rest) (fits : rest < 2 ^ 64) (word_fits : get_or ws (low / 64) 0 < 2 ^ 64) where
     -- the lowest bit of the rest lies in the word
-    in_word : low % 64 + count_trailing_zeros 64 rest < 64
+    pub in_word : low % 64 + count_trailing_zeros 64 rest < 64
     in_word =
         ⊎_elim (λ (l : low % 64 + count_trailing_zeros 64 rest < 64). l)
         (λ (g : 64 ≤ low % 64 + count_trailing_zeros 64 rest).

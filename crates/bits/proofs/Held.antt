@@ -13,7 +13,7 @@ pub differ_none : (b : Bool) → differ b false ≡ b
 differ_none true = refl
 differ_none false = refl
 
-or_none : (b : Bool) → (b || false) ≡ b
+pub or_none : (b : Bool) → (b || false) ≡ b
 or_none true = refl
 or_none false = refl
 

@@ -1,3 +1,4 @@
+pub mod Eights
 pub mod Found
 pub mod Held
 pub mod Ones

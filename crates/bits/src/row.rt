@@ -3,7 +3,7 @@ ghost use Rattle.std.specs.Prelude.{◌≡◌, ◌+◌, ◌<◌, ◌≤◌, leng
 ghost use Rattle.std.specs.Simd.Lanes.{put_chunk};
 ghost use Rattle.bits.specs.Sets.{holds, xors, row, put_row};
 
-use crate::set::{Set, add, bit_at};
+use crate::set::{Set, add, has};
 use std::simd::prelude::*;
 
 // Row r where the slice holds it whole.
@@ -20,26 +20,14 @@ pub fn line_at(words: &[u64], r: usize) -> Set
     whole_row(words, r).copied().unwrap_or([0; 8])
 }
 
-// Word i of row r. Asked of every row for each column, where a row lent as a chunk is slower by an eighth.
-fn word_at(words: &[u64], r: usize, i: usize) -> u64
-    requires { i < 8 }
-    ensures { result ≡ slice_index (row words.now r) i }
-{
-    if r < words.len() / 8 {
-        words[8 * r + i]
-    } else {
-        0
-    }
-}
-
 // Whether row r holds c.
 pub fn row_has(words: &[u64], r: usize, c: usize) -> bool
     ensures { result ≡ holds (row words.now r) c }
 {
-    c < 512 && bit_at(word_at(words, r, c / 64), c % 64)
+    whole_row(words, r).is_some_and(|line| has(line, c))
 }
 
-// Writes row r; nothing where the slice ends before it does. What a chunk lent by `as_chunks_mut` ends as is said of no slice.
+// Writes row r; nothing where the slice ends before it does. By a range: of `as_chunks_mut` a proof does not know what was written.
 pub fn put_line(words: &mut [u64], r: usize, line: &Set)
     ensures { words.new ≡ put_row words.old r line.now }
 {
@@ -48,7 +36,7 @@ pub fn put_line(words: &mut [u64], r: usize, line: &Set)
     }
 }
 
-// Writes eight words, by a range: the library does not say what a write through `as_chunks_mut` leaves.
+// Writes eight words.
 fn store(words: &mut [u64], at: usize, line: &Set)
     requires { at + 8 ≤ length words.old }
     ensures { words.new ≡ put_chunk at words.old line.now }

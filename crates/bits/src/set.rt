@@ -31,7 +31,7 @@ pub fn put(words: &mut [u64], c: usize)
     }
 }
 
-// Takes c out where it is in, and puts it in where it is not; nothing past the end of the words.
+// Takes c out where it is in, and puts it in where it is not; nothing past the end of the words. By index, as `put`.
 pub fn flip(words: &mut [u64], c: usize)
     ensures { Flipped c words.old words.new }
 {

@@ -1,4 +1,5 @@
 // Edges of the words, the walk over a set, and rows in a slice that ends early.
+use crate::column::holders;
 use crate::find::{alone, count, least, next};
 use crate::row::{add_row, line_at, put_line, row_has, wipe};
 use crate::set::{flip, has, put, shared};
@@ -43,4 +44,24 @@ fn rows_stand_apart(rt: HostRuntime) {
     assert_eq!(rt; least(&line_at(&words, 2)), None);
     wipe(&mut words);
     assert_eq!(rt; words[15], 0);
+}
+
+#[test]
+fn a_column_of_rows(rt: HostRuntime) {
+    // Nineteen rows and three words of another: two eights, and three rows after them.
+    let mut words = [0; 155];
+    for r in [0, 7, 8, 18] {
+        put_line(&mut words, r, &[0, 2, 0, 0, 0, 0, 0, 1 << 63]);
+    }
+    words[153] = 2;
+    let rows = holders(&words, 65);
+    assert_eq!(rt; count(&rows), 4);
+    assert!(rt; has(&rows, 0) && has(&rows, 7) && has(&rows, 8) && has(&rows, 18));
+    assert_eq!(rt; holders(&words, 511), rows);
+    assert_eq!(rt; least(&holders(&words, 64)), None);
+    assert_eq!(rt; least(&holders(&words, 512)), None);
+    assert_eq!(rt; least(&holders(&[], 0)), None);
+    // No more than the first 512 rows.
+    let many = [1; 4104];
+    assert_eq!(rt; count(&holders(&many, 0)), 512);
 }

@@ -9,7 +9,7 @@ mod making;
 mod questions;
 mod starts;
 
-#[derive(Clone, Copy)]
+#[derive(Clone, Copy, PartialEq, Eq, Debug)]
 pub struct Listed<'a> {
     m: usize,
     n: usize,

@@ -6,7 +6,7 @@ ghost use Rattle.codes.specs.RowsRead.{columns_left};
 use crate::code::Rows;
 
 // The row at place `next` on: each column is read once, as it is asked for.
-#[derive(Drop)]
+#[derive(PartialEq, Eq, Debug, Drop)]
 pub struct RowColumns<'c, C> {
     pub(crate) code: &'c C,
     pub(crate) r: usize,

@@ -8,7 +8,7 @@ use crate::turning::turn;
 use codes::{Code, Refusal, Rows, Shape, Squares};
 
 // The code below, seen as these squares.
-#[derive(Drop)]
+#[derive(PartialEq, Eq, Debug, Drop)]
 pub struct Interleaved<C: Rows> {
     below: C,
     squares: Squares,

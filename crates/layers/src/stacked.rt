@@ -6,7 +6,7 @@ ghost use Rattle.layers.specs.Rows.{Found};
 
 use codes::{Code, MAX_ONES, MAX_ROWS, Refusal, Rows, Shape};
 
-#[derive(Drop)]
+#[derive(PartialEq, Eq, Debug, Drop)]
 pub struct Stacked<P: Rows, Q: Rows> {
     first: P,
     second: Q,

@@ -8,7 +8,7 @@ mod making;
 mod questions;
 
 // Squares with their entries line by line.
-#[derive(Clone, Copy)]
+#[derive(Clone, Copy, PartialEq, Eq, Debug)]
 pub struct QuasiCyclic<'a> {
     squares: Squares,
     entries: &'a [i16],

@@ -15,14 +15,14 @@ pub struct Word {
 }
 
 // Sixty-four bytes. An array is a list in the logic, so a ghost field says how long.
-#[derive(Clone, Copy)]
+#[derive(Clone, Copy, PartialEq, Eq, Debug)]
 pub struct Cell {
     pub bytes: [u8; 64],
     ghost full: { length bytes ≡ 64 },
 }
 
 // A symbol of each of two kinds.
-#[derive(Clone, Copy)]
+#[derive(Clone, Copy, PartialEq, Eq, Debug)]
 pub struct Pair<A, B> {
     pub first: A,
     pub second: B,

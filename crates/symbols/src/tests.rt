@@ -75,3 +75,16 @@ fn a_row_sums_its_columns_and_no_more(rt: HostRuntime) {
     assert_eq!(rt; sum_at(&table, &[0, 2, 3, 65535]).value, 5);
     assert_eq!(rt; sum_at(&table, &[1, 1]).value, 0);
 }
+
+#[test]
+fn cells_and_pairs_compare(rt: HostRuntime) {
+    let (x, y) = (Cell::new([7; 64]), Cell::new([0; 64]));
+    assert!(rt; x == Cell::new([7; 64]) && x != y);
+    let dated = |cell, value| Dated {
+        first: cell,
+        second: Word { value },
+    };
+    assert!(rt;
+        dated(x, 3) == dated(x, 3) && dated(x, 3) != dated(x, 4) && dated(x, 3) != dated(y, 3)
+    );
+}

