@@ -4,14 +4,16 @@ use lib.ListN.{length-map}
 use Rattle.std.specs.List.{range_with_len, AllByRecursion}
 use Rattle.std.proofs.lemmas.List.FromFn.{length-range_with_len, get_or-range_with_len}
 use Rattle.std.proofs.lemmas.List.{get_or_past, get_or-map}
-use Rattle.std.proofs.lemmas.Bool.{cases_lt, cases_eq}
+use Rattle.std.specs.Option.{MatchOption}
+use Rattle.std.proofs.lemmas.Bool.{cases_lt, cases_eq, false≢true}
 use Rattle.codes.specs.Matrix.{Matrix, row_at}
 use Rattle.method.specs.Sets.{has, kept_if, marked}
 use Rattle.method.specs.Choices.{pair_of, with_pair, joins, merged, label, labels}
 use Rattle.method.proofs.Marks.{has_below}
 use Rattle.policies.specs.Numbers.{at}
 use Rattle.policies.specs.Forests.{Labelled, joined}
-use Rattle.policies.specs.Drawings.{some_of}
+use Rattle.policies.specs.Drawings.{some_of, Drawn}
+use Rattle.policies.specs.declared.forest.Forest.{Forest}
 use Rattle.policies.proofs.Trees.{turned, unturned}
 use Rattle.std.proofs.lemmas.Option.{none-some}
 
@@ -87,29 +89,39 @@ joins_more : (k : Matrix) (a u : List Bool) (r : ℕ) (b : Bool) (o : Option (�
 joins_more k a u r b o e f =
     ap (λ t. with_pair b t (joins k a u r)) f ∙ ap (λ t. with_pair t (pair_of (marked a (row_at k r))) (joins k a u r)) e ∙ sym (ap (joins k a u) (add-one r))
 
+no_pair : {X : Type 0} (es : List X) → false ≡ some_of es → es ≡ []
+no_pair [] e = refl
+no_pair (x ∷ xs) e = absurd (false≢true e)
+
 -- what is drawn of some rows, and of one row more
-pub record Drawing (n : ℕ) (es : List (ℕ × ℕ)) (any : Bool) (up : List ℕ) : Type 0 where
-  pub tells : any ≡ some_of es
-  pub forest : Labelled up (label (labels n es))
+pub drawn_start : (n : ℕ) → Drawn n [] None
+drawn_start n = record { tells = refl; forest = tt }
 
-module _ (k : Matrix) (a u : List Bool) (r : ℕ) (any : Bool) (up : List ℕ) (h : Drawing (length a) (joins k a u r) any up) where
-  pub drawn_idle : false ≡ has u r → Drawing (length a) (joins k a u (r + 1)) any up
-  drawn_idle e = subst (λ es. Drawing (length a) es any up) (joins_more k a u r false _ e refl) h
+module _ (k : Matrix) (a u : List Bool) (r : ℕ) (drawn : Option Forest) (h : Drawn (length a) (joins k a u r) drawn) where
+  pub drawn_idle : false ≡ has u r → Drawn (length a) (joins k a u (r + 1)) drawn
+  drawn_idle e = subst (λ es. Drawn (length a) es drawn) (joins_more k a u r false _ e refl) h
 
-  pub drawn_other : true ≡ has u r → None ≡ pair_of (marked a (row_at k r)) → Drawing (length a) (joins k a u (r + 1)) any up
-  drawn_other e f = subst (λ es. Drawing (length a) es any up) (joins_more k a u r true None e f) h
+  pub drawn_other : true ≡ has u r → None ≡ pair_of (marked a (row_at k r)) → Drawn (length a) (joins k a u (r + 1)) drawn
+  drawn_other e f = subst (λ es. Drawn (length a) es drawn) (joins_more k a u r true None e f) h
 
-  pub drawn_pair : (x y : ℕ) (next : List ℕ) → true ≡ has u r → Some (x, y) ≡ pair_of (marked a (row_at k r))
-      → ((f : ℕ → ℕ) → Labelled up f → Labelled next (joined f x y)) → Drawing (length a) (joins k a u (r + 1)) true next
-  drawn_pair x y next e f j =
+  -- the forest that is there, or a new one where no pair came yet
+  forest_so_far : (t : Forest) → MatchOption drawn (Labelled t.up (λ c. c)) (λ d. t ≡ d) → Labelled t.up (label (labels (length a) (joins k a u r)))
+  forest_so_far t m = go drawn m h
+    where
+      go : (d : Option Forest) → MatchOption d (Labelled t.up (λ c. c)) (λ d. t ≡ d) → Drawn (length a) (joins k a u r) d → Labelled t.up (label (labels (length a) (joins k a u r)))
+      go None alone h =
+          let none = no_pair (joins k a u r) h.tells in
+          forest_like t.up (λ c. c) (label (labels (length a) (joins k a u r))) (λ c. ap (λ es. label (labels (length a) es) c) none ∙ label_start (length a) c) alone
+      go (Some d) e h = subst (λ (t : Forest). Labelled t.up (label (labels (length a) (joins k a u r)))) (sym e) h.forest
+
+  pub drawn_pair : (x y : ℕ) (t next : Forest) → true ≡ has u r → Some (x, y) ≡ pair_of (marked a (row_at k r)) → MatchOption drawn (Labelled t.up (λ c. c)) (λ d. t ≡ d)
+      → ((f : ℕ → ℕ) → Labelled t.up f → Labelled next.up (joined f x y)) → Drawn (length a) (joins k a u (r + 1)) (Some next)
+  drawn_pair x y t next e f m j =
       let l = pair_below k a r x y f in
       let n : ℕ = length a in
       let es : List (ℕ × ℕ) = joins k a u r in
-      let d : Drawing (length a) ((x, y) ∷ joins k a u r) true next = record {
+      let d : Drawn (length a) ((x, y) ∷ joins k a u r) (Some next) = record {
         tells = refl;
-        forest = forest_like next (joined (label (labels n es)) x y) (label (labels n ((x, y) ∷ es))) (label_more n es x y l.0 l.1) (j (label (labels n es)) h.forest);
+        forest = forest_like next.up (joined (label (labels n es)) x y) (label (labels n ((x, y) ∷ es))) (label_more n es x y l.0 l.1) (j (label (labels n es)) (forest_so_far t m));
       } in
-      subst (λ es. Drawing (length a) es true next) (joins_more k a u r true (Some (x, y)) e f) d
-
-pub drawn_start : (n : ℕ) (up : List ℕ) → Labelled up (λ c. c) → Drawing n [] false up
-drawn_start n up h = record { tells = refl; forest = forest_like up (λ c. c) (label (labels n [])) (label_start n) h }
+      subst (λ es. Drawn (length a) es (Some next)) (joins_more k a u r true (Some (x, y)) e f) d

@@ -1,6 +1,5 @@
 pub mod Shown
 pub mod Numbers
-pub mod Scans
 pub mod Forests
 pub mod Drawings
 pub mod Layered

@@ -8,7 +8,7 @@ use crate::joins::largest_joined;
 use crate::policy::Policy;
 use codes::Code;
 
-#[derive(Clone, Copy)]
+#[derive(Clone, Copy, PartialEq, Eq, Debug)]
 pub struct Component<P> {
     pub below: P,
 }
@@ -19,7 +19,8 @@ impl<P: Policy> Policy for Component<P> {
     ghost names = { λ k. component_names k (asking_below (P.Policy.choice k)) (λ p a u. P.Policy.names k p.below a u) };
 
     fn name<C: Code>(&mut self, code: &C, active: &Columns, unused: &Columns) -> Option<usize> {
-        // A closure in `or_else` would change the policy below, and its call tells nothing of the state after.
+        // Not by `or_else`: it does not say that its closure was not called where there is a column, so that the state of the
+        // policy below would not be known.
         match largest_joined(code, active, unused) {
             Some(c) => Some(c),
             None => self.below.name(code, active, unused),

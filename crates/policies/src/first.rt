@@ -6,7 +6,7 @@ use crate::columns::Columns;
 use crate::policy::Policy;
 use codes::Code;
 
-#[derive(Clone, Copy)]
+#[derive(Clone, Copy, PartialEq, Eq, Debug)]
 pub struct First;
 
 impl Policy for First {

@@ -32,12 +32,12 @@ impl Forest {
         requires { c < 512 }
         ensures { Lifted self.old.up self.new.up c result }
     {
-        let above = self.up[self.up[c] as usize];
+        let above = self.up[usize::from(self.up[c])];
         self.up[c] = above;
         usize::from(above)
     }
 
-    // The root of c's set; the way up to it is halved.
+    // The root of c's set; the way up to it is halved. A `while`, since it walks and counts nothing.
     fn find(&mut self, c: usize) -> usize
         requires { c < 512 }
         ensures { Root self.old.up self.new.up c result }

@@ -35,14 +35,7 @@ fn weigh<C: Code>(code: &C, unused: &Columns) -> Numbers
     counts
 }
 
-fn heaviest_active<C: Code>(code: &C, active: &Columns, unused: &Columns) -> Option<usize>
-    ensures { result ≡ heaviest (C.Rows.matrix code.now) (shown active.now) (shown unused.now) }
-{
-    let weights = weigh(code, unused);
-    top(&weights, active)
-}
-
-#[derive(Clone, Copy)]
+#[derive(Clone, Copy, PartialEq, Eq, Debug)]
 pub struct Heaviest;
 
 impl Policy for Heaviest {
@@ -51,6 +44,6 @@ impl Policy for Heaviest {
     ghost names = { λ k p a u. top_names (column_weight k u) a };
 
     fn name<C: Code>(&mut self, code: &C, active: &Columns, unused: &Columns) -> Option<usize> {
-        heaviest_active(code, active, unused)
+        top(&weigh(code, unused), active)
     }
 }

@@ -15,17 +15,15 @@ use codes::Code;
 fn draw<C: Code>(code: &C, active: &Columns, unused: &Columns) -> Option<Forest>
     ensures { Drawn (length (shown active.now)) (joins (C.Rows.matrix code.now) (shown active.now) (shown unused.now) (height (C.Rows.matrix code.now))) result }
 {
-    let mut forest = Forest::alone();
-    let mut any = false;
+    let mut forest: Option<Forest> = None;
     for r in 0..code.shape().rows {
         if unused.has(r) {
             if let Some((x, y)) = pair_of(code, active, r) {
-                forest.join(x, y);
-                any = true;
+                forest.get_or_insert_with(Forest::alone).join(x, y);
             }
         }
     }
-    any.then_some(forest)
+    forest
 }
 
 // The lowest column of the largest set; none where no row joins two columns.

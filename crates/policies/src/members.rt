@@ -7,7 +7,7 @@ ghost use Rattle.policies.specs.Shown.{shown, Taken};
 use crate::columns::Columns;
 
 // What is left of the set.
-#[derive(Clone, Drop)]
+#[derive(Clone, PartialEq, Eq, Debug, Drop)]
 pub struct Members {
     left: Columns,
 }

@@ -7,50 +7,15 @@ ghost use Rattle.policies.specs.Shown.{marks_of, shown};
 use crate::columns::Columns;
 use bits::Set;
 
-// Whether c is in the set of the numbers below the width that the words hold.
-fn held(words: &Set, width: usize, c: usize) -> bool
-    ensures { result ≡ has (marks_of width words.now) c }
-{
-    c < width && bits::has(words, c)
-}
-
-// The lowest number that the words hold, as a mark in any set wide enough for them.
-fn lowest_held(words: &Set) -> Option<usize>
-    ensures { (n : ℕ) → ((c : ℕ) → n ≤ c → holds words.now c ≡ false) → result ≡ lowest (λ b. b) (marks_of n words.now) }
-{
-    bits::least(words)
-}
-
 impl Columns {
-    fn empty(width: usize) -> Columns
-        requires { width ≤ 512 }
-        ensures { shown result ≡ replicate width false }
-    {
-        Columns {
-            words: [0; 8],
-            width,
-        }
-    }
-
-    fn mark(&mut self, c: usize)
-        requires { c < self.old.width }
-        ensures { shown self.new ≡ slice_set (shown self.old) c true }
-    {
-        bits::put(&mut self.words, c);
-    }
-
-    fn unmark(&mut self, c: usize)
-        requires { has (shown self.old) c ≡ true }
-        ensures { shown self.new ≡ slice_set (shown self.old) c false }
-    {
-        bits::flip(&mut self.words, c);
-    }
-
     // None of the numbers below the width, which is 512 at most.
     pub fn none(width: usize) -> Columns
         ensures { shown result ≡ replicate (min width 512) false }
     {
-        Columns::empty(width.min(512))
+        Columns {
+            words: [0; 8],
+            width: width.min(512),
+        }
     }
 
     // All of the numbers below the width, which is 512 at most, put in one by one: filled words would need the last one apart.
@@ -68,7 +33,7 @@ impl Columns {
     pub fn has(&self, c: usize) -> bool
         ensures { result ≡ has (shown self.now) c }
     {
-        held(&self.words, self.width, c)
+        bits::has(&self.words, c)
     }
 
     // Puts c in, if it lies below the width.
@@ -76,7 +41,7 @@ impl Columns {
         ensures { shown self.new ≡ slice_set (shown self.old) c true }
     {
         if c < self.width {
-            self.mark(c);
+            bits::put(&mut self.words, c);
         }
     }
 
@@ -85,7 +50,7 @@ impl Columns {
         ensures { shown self.new ≡ slice_set (shown self.old) c false }
     {
         if self.has(c) {
-            self.unmark(c);
+            bits::flip(&mut self.words, c);
         }
     }
 
@@ -103,6 +68,6 @@ impl Columns {
     pub fn least(&self) -> Option<usize>
         ensures { result ≡ lowest (λ b. b) (shown self.now) }
     {
-        lowest_held(&self.words)
+        bits::least(&self.words)
     }
 }

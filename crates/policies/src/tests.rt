@@ -12,7 +12,7 @@ use codes::{Code, Listed, Record};
 use std::test::Fail;
 
 // A policy of one's own: it names as the first does, and remembers that it was asked.
-#[derive(Clone, Copy)]
+#[derive(Clone, Copy, PartialEq, Eq, Debug)]
 struct Watched {
     asked: bool,
 }

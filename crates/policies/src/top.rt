@@ -1,7 +1,7 @@
 // The active column of greatest weight, of weights in an array.
-ghost use Rattle.std.specs.Prelude.{◌≡◌, ◌+◌, ◌<◌, true, slice_set};
-ghost use Rattle.method.specs.Choices.{better, top};
-ghost use Rattle.policies.specs.Numbers.{at, Below};
+ghost use Rattle.std.specs.Prelude.{◌≡◌, ◌+◌, ◌<◌, slice_set};
+ghost use Rattle.method.specs.Choices.{top};
+ghost use Rattle.policies.specs.Numbers.{at};
 ghost use Rattle.policies.specs.Shown.{shown};
 
 use crate::columns::Columns;
@@ -19,25 +19,11 @@ pub(crate) fn raise(counts: &mut Numbers, c: usize)
     counts[c] += 1;
 }
 
-// The choice so far, or the active column c where it is heavier.
-fn better(weights: &Numbers, best: Option<usize>, c: usize) -> Option<usize>
-    requires column { c < 512 }
-    requires below { Below c best }
-    ensures { result ≡ better (at weights.now) c true best }
-{
-    match best {
-        Some(b) if weights[b] >= weights[c] => best,
-        _ => Some(c),
-    }
-}
-
 // The active column of greatest weight, the lowest on a tie.
 pub(crate) fn top(weights: &Numbers, active: &Columns) -> Option<usize>
     ensures { result ≡ top (at weights.now) (shown active.now) }
 {
-    let mut best = None;
-    for c in active {
-        best = better(weights, best, c);
-    }
-    best
+    active
+        .iter()
+        .reduce(|b, c| if weights[b] >= weights[c] { b } else { c })
 }
