@@ -4,7 +4,7 @@ ghost use Rattle.std.specs.Prelude.{◌≡◌, length};
 use crate::answer::Report;
 
 // An array, since a search allocates nothing.
-#[derive(Clone, Copy)]
+#[derive(Clone, Copy, PartialEq, Eq, Debug)]
 pub struct Found {
     pub(crate) report: Report,
     pub(crate) rows: [Option<u8>; 512],

@@ -1,9 +1,13 @@
-// What was heard: a table, and which of its places were received.
+// What was heard of a codeword: its code, a table, and which of the table's places were received.
 ghost use Rattle.std.specs.Prelude.{◌≡◌, length};
 
+use codes::{Code, Rows};
+
 #[derive(Drop)]
-pub struct Heard<'t, S> {
+pub struct Heard<'t, S, C: Code> {
+    pub code: &'t C,
     pub table: &'t [S],
     pub received: &'t [bool; 512],
     ghost each: { length received.now ≡ 512 },
+    ghost wide: { length table.now ≡ (C.Rows.matrix code.now).width },
 }

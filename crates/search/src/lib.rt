@@ -22,4 +22,5 @@ mod whole;
 pub use answer::{Report, Unfound};
 pub use found::Found;
 pub use read::wipe;
+pub use refusals::Numbered;
 pub use whole::{look, search};

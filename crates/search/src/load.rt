@@ -26,10 +26,9 @@ fn lone_rows(m: usize, counts: &[u16; 256]) -> Columns
     passing(m, |r| counts[r] == 1)
 }
 
-impl<S: Symbol> Heard<'_, S> {
+impl<S: Symbol, C: Code> Heard<'_, S, C> {
     // The missing places.
     fn missing(&self) -> Columns
-        requires { length self.now.table.now ≤ 512 }
         ensures { shown result ≡ missing (take (length self.now.table.now) self.now.received.now) }
     {
         let received = self.received;
@@ -37,19 +36,14 @@ impl<S: Symbol> Heard<'_, S> {
     }
 
     // Reads row r: its missing columns as a set, the sum of its received symbols, and how many columns are missing.
-    fn read_row<C: Code>(
-        &self,
-        code: &C,
-        heard: &mut ArrayVec<u16, 512>,
-        r: usize,
-    ) -> (bits::Set, S, u16)
-        requires { r < height (C.Rows.matrix code.now) }
-        ensures { Read S.Symbol.kind (C.Rows.matrix code.now) self.now.received.now self.now.table.now r result.0 result.1 result.2 }
+    fn read_row(&self, heard: &mut ArrayVec<u16, 512>, r: usize) -> (bits::Set, S, u16)
+        requires { r < height (C.Rows.matrix self.now.code.now) }
+        ensures { Read S.Symbol.kind (C.Rows.matrix self.now.code.now) self.now.received.now self.now.table.now r result.0 result.1 result.2 }
     {
         let mut line = [0; 8];
         let mut lost = 0;
         heard.clear();
-        for c in code.row(r) {
+        for c in self.code.row(r) {
             if self.received[c] {
                 heard.push(c as u16);
             } else {
@@ -61,15 +55,16 @@ impl<S: Symbol> Heard<'_, S> {
     }
 
     // Loads every row, and counts the missing columns of each.
-    fn load_rows<C: Code>(&self, code: &C, words: &mut [u64], sides: &mut [S]) -> [u16; 256]
-        requires high { length sides.old ≡ height (C.Rows.matrix code.now) }
+    fn load_rows(&self, words: &mut [u64], sides: &mut [S]) -> [u16; 256]
+        requires high { length sides.old ≡ height (C.Rows.matrix self.now.code.now) }
         requires within { length words.old ≡ 8 * length sides.old }
-        ensures { Loaded S.Symbol.kind (C.Rows.matrix code.now) self.now.received.now self.now.table.now words.new sides.new result (length sides.old) }
+        ensures { Loaded S.Symbol.kind (C.Rows.matrix self.now.code.now) self.now.received.now self.now.table.now words.new sides.new result (length sides.old) }
     {
         let mut heard = ArrayVec::new();
         let mut counts = [0; 256];
+        // By place, since after a `zip` over `iter_mut` a proof knows no element.
         for (r, side) in sides.iter_mut().enumerate() {
-            let (line, sum, lost) = self.read_row(code, &mut heard, r);
+            let (line, sum, lost) = self.read_row(&mut heard, r);
             bits::put_line(words, r, &line);
             *side = sum;
             counts[r] = lost;
@@ -77,14 +72,14 @@ impl<S: Symbol> Heard<'_, S> {
         counts
     }
 
-    // Nothing done yet: the missing places are active, and every row is unused.
+    // Nothing done yet: the missing places are active, and every row is unused. The lengths stand in its clauses and in those
+    // of the functions around it, since what they make is the struct that keeps them.
     fn begin<'m>(
         &self,
         counts: [u16; 256],
         words: &'m mut [u64],
         sides: &'m mut [S],
     ) -> Elimination<'m, S>
-        requires wide { length self.now.table.now ≤ 512 }
         requires few { length sides.old ≤ 256 }
         requires within { length words.old ≡ 8 * length sides.old }
         ensures words { result.words.ghost_name ≡ words.entry.ghost_name }
@@ -113,24 +108,18 @@ impl<S: Symbol> Heard<'_, S> {
     }
 
     // Loads the rows and begins.
-    pub(crate) fn load<'m, C: Code>(
-        &self,
-        code: &C,
-        words: &'m mut [u64],
-        sides: &'m mut [S],
-    ) -> Elimination<'m, S>
-        requires wide { length self.now.table.now ≡ (C.Rows.matrix code.now).width }
-        requires high { length sides.old ≡ height (C.Rows.matrix code.now) }
+    pub(crate) fn load<'m>(&self, words: &'m mut [u64], sides: &'m mut [S]) -> Elimination<'m, S>
+        requires high { length sides.old ≡ height (C.Rows.matrix self.now.code.now) }
         requires within { length words.old ≡ 8 * length sides.old }
         ensures words { result.words.ghost_name ≡ words.entry.ghost_name }
         ensures sides { result.sides.ghost_name ≡ sides.entry.ghost_name }
         ensures long { length result.words.now ≡ length words.old }
         ensures high { length result.sides.now ≡ length sides.old }
-        ensures wide { result.active.width ≡ (C.Rows.matrix code.now).width }
+        ensures wide { result.active.width ≡ (C.Rows.matrix self.now.code.now).width }
         ensures going { Going S.Symbol.kind result }
-        ensures state { bare S.Symbol.kind result ≡ start S.Symbol.kind (C.Rows.matrix code.now) (marks_in (C.Rows.matrix code.now) self.now.received.now) self.now.table.now tt }
+        ensures state { bare S.Symbol.kind result ≡ start S.Symbol.kind (C.Rows.matrix self.now.code.now) (marks_in (C.Rows.matrix self.now.code.now) self.now.received.now) self.now.table.now tt }
     {
-        let counts = self.load_rows(code, words, sides);
+        let counts = self.load_rows(words, sides);
         self.begin(counts, words, sides)
     }
 }

@@ -1,4 +1,4 @@
-// The number and the values of each refusal.
+// The number and the first value of each refusal.
 ghost use Rattle.search.specs.Answers.{meaning};
 
 use crate::answer::Unfound;

@@ -1,17 +1,9 @@
 // The set of the numbers that pass a test.
-ghost use Rattle.std.specs.Prelude.{◌≡◌, ℕ, ◌<◌, ◌≤◌, Bool, true, map, slice_set};
+ghost use Rattle.std.specs.Prelude.{◌≡◌, ℕ, ◌<◌, ◌≤◌, Bool, map};
 ghost use Rattle.std.specs.List.{range_with_len};
 ghost use Rattle.policies.specs.Shown.{shown};
 
 use policies::Columns;
-
-// Puts a number in. Kept out of the loop below, where most numbers pass no test: the compiler would weave its tests in.
-#[inline(never)]
-fn put(set: &mut Columns, c: usize)
-    ensures { shown set.new ≡ slice_set (shown set.old) c true }
-{
-    set.put(c);
-}
 
 // The numbers below n that pass.
 pub(crate) fn passing<F: Fn(usize) -> bool>(n: usize, test: F) -> Columns
@@ -22,7 +14,7 @@ pub(crate) fn passing<F: Fn(usize) -> bool>(n: usize, test: F) -> Columns
     let mut set = Columns::none(n);
     for c in 0..n {
         if test(c) {
-            put(&mut set, c);
+            set.put(c);
         }
     }
     set

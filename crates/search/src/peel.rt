@@ -10,7 +10,7 @@ ghost use Rattle.search.specs.Steps.{SameMemory, Going, Ready, Lowered, Moved, E
 ghost use Rattle.search.specs.View.{rows_of, view, bare};
 
 use crate::elimination::Elimination;
-use crate::rows::{add_to_each, holders};
+use crate::rows::add_to_each;
 use crate::tally::Tally;
 use codes::Code;
 use policies::{Columns, Policy};
@@ -67,9 +67,10 @@ impl<S: Symbol> Elimination<'_, S> {
     pub(crate) fn holders(&self, c: usize) -> Columns
         ensures { shown result ≡ map (holding self.now.words.now c) (range_with_len 0 (length self.now.sides.now)) }
     {
-        let m = self.sides.len();
-        // All the words, by a length from which the compiler sees that no row ends past it.
-        holders(&self.words[..8 * m], m, c)
+        Columns {
+            words: bits::holders(self.words, c),
+            width: self.sides.len(),
+        }
     }
 
     // Row r is used for column c, and added to every other row that holds it.
@@ -122,34 +123,29 @@ impl<S: Symbol> Elimination<'_, S> {
         self.pivots.push(c as u16);
     }
 
-    // One step; false where no column is active, as the loop below reads it at once.
+    // One step; false where no column is active. A `bool`, since the loop below reads it at once.
     fn advance<C: Code, P: Policy>(&mut self, code: &C, policy: &mut P) -> bool
         requires { Going S.Symbol.kind self.old }
         ensures memory { SameMemory self.old self.new }
         ensures going { Going S.Symbol.kind self.new }
         ensures stepped { MatchBool result (Moved S.Symbol.kind (P.Policy.choice (C.Rows.matrix code.now)) (view S.Symbol.kind self.old policy.old) (view S.Symbol.kind self.new policy.new)) (Ended (view S.Symbol.kind self.old policy.old) (view S.Symbol.kind self.new policy.new)) }
     {
-        match self.next_ready() {
-            Some((r, c)) => {
-                self.peel_row(r, c);
-                true
-            }
-            None => {
-                if self.active.least().is_none() {
-                    return false;
-                }
-                match policy.name(code, &self.active, &self.uses.unused) {
-                    Some(c) => {
-                        self.put_pivot(c);
-                        true
-                    }
-                    None => false,
-                }
-            }
+        if let Some((r, c)) = self.next_ready() {
+            self.peel_row(r, c);
+            return true;
         }
+        if self.active.least().is_none() {
+            return false;
+        }
+        let Some(c) = policy.name(code, &self.active, &self.uses.unused) else {
+            return false;
+        };
+        self.put_pivot(c);
+        true
     }
 
-    // Steps until no column is active.
+    // Steps until no column is active. That the set is as wide as the code is asked here and by the two that call this: with the
+    // code in the struct, the methods that need none would be generic in it.
     pub(crate) fn peel<C: Code, P: Policy>(&mut self, code: &C, policy: &mut P)
         requires going { Going S.Symbol.kind self.old }
         requires wide { self.old.active.width ≡ (C.Rows.matrix code.now).width }

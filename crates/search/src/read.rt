@@ -15,12 +15,10 @@ use symbols::Symbol;
 pub(crate) fn clashes<S: Symbol>(sides: &[S], uses: &Uses) -> bool
     ensures { (n : ℕ) (ws : List ℕ) → result ≡ is_some (lowest (clash S.Symbol.kind) (lines S.Symbol.kind n ws sides.now uses.now)) }
 {
-    for (r, side) in sides.iter().enumerate() {
-        if uses.unused.has(r) && !side.is_zero() {
-            return true;
-        }
-    }
-    false
+    sides
+        .iter()
+        .enumerate()
+        .any(|(r, side)| uses.unused.has(r) && !side.is_zero())
 }
 
 impl Uses {
@@ -29,11 +27,7 @@ impl Uses {
         requires { r < 256 }
         ensures { result ≡ use_of self.now r }
     {
-        if self.unused.has(r) {
-            None
-        } else {
-            Some(usize::from(self.columns[r]))
-        }
+        (!self.unused.has(r)).then_some(usize::from(self.columns[r]))
     }
 }
 
@@ -42,7 +36,7 @@ pub(crate) fn places(uses: &Uses, m: usize) -> [Option<u8>; 512]
     requires { m ≤ 256 }
     ensures { Placed uses.now 0 m result }
 {
-    // From the highest row down, so that the lowest stays.
+    // From the highest row down, so that the lowest stays. By index: of `get_mut` a proof does not know what was written.
     let mut rows = [None; 512];
     for r in (0..m).rev() {
         if let Some(c) = uses.column_of(r) {
@@ -80,21 +74,7 @@ impl Found {
     pub fn symbol<S: Symbol>(&self, sides: &[S], c: usize) -> S
         ensures { result ≡ symbol_at S.Symbol.kind self.now sides.now c }
     {
-        match self.row_of(c) {
-            Some(r) => side_at(sides, r),
-            None => S::zero(),
-        }
-    }
-}
-
-// Writes z to the first m right sides, or to all where there are fewer.
-fn fill_first<S: Symbol>(sides: &mut [S], m: usize, z: S)
-    ensures { sides.new ≡ wiped z m sides.old }
-{
-    // Not by `fill`, which asks for a clone that cannot fail: of a symbol only a copy is known.
-    let k = m.min(sides.len());
-    for side in &mut sides[..k] {
-        *side = z;
+        self.row_of(c).map_or(S::zero(), |r| side_at(sides, r))
     }
 }
 
@@ -102,5 +82,10 @@ fn fill_first<S: Symbol>(sides: &mut [S], m: usize, z: S)
 pub fn wipe<S: Symbol>(sides: &mut [S], m: usize)
     ensures { sides.new ≡ wiped S.Symbol.kind.zero m sides.old }
 {
-    fill_first(sides, m, S::zero());
+    // Not by `fill`, which asks for a clone that cannot fail: of a symbol only a copy is known.
+    let zero = S::zero();
+    let k = m.min(sides.len());
+    for side in &mut sides[..k] {
+        *side = zero;
+    }
 }

@@ -1,22 +1,12 @@
-// The rows in working memory: which hold a column, and one row added to others.
-ghost use Rattle.std.specs.Prelude.{◌≡◌, ◌*◌, ◌<◌, ◌≤◌, map, length, slice_index_or, slice_set};
-ghost use Rattle.std.specs.List.{range_with_len};
+// The rows in working memory: one added to others.
+ghost use Rattle.std.specs.Prelude.{◌≡◌, ◌*◌, ◌<◌, ◌≤◌, length, slice_index_or, slice_set};
 ghost use Rattle.bits.specs.Sets.{xors, row, put_row};
 ghost use Rattle.method.specs.Sets.{count};
 ghost use Rattle.policies.specs.Shown.{shown};
-ghost use Rattle.search.specs.Rows.{holding, Added};
+ghost use Rattle.search.specs.Rows.{Added};
 
-use crate::passing::passing;
 use policies::Columns;
 use symbols::Symbol;
-
-// The rows below m that hold column c.
-pub(crate) fn holders(words: &[u64], m: usize, c: usize) -> Columns
-    requires { m ≤ 512 }
-    ensures { shown result ≡ map (holding words.now c) (range_with_len 0 m) }
-{
-    passing(m, |r| bits::row_has(words, r, c))
-}
 
 // Adds a set and a symbol to row q. No method: one would have to say that all else of an elimination stays.
 fn add_line<S: Symbol>(words: &mut [u64], sides: &mut [S], q: usize, line: &bits::Set, side: &S)

@@ -4,7 +4,7 @@ ghost use Rattle.std.specs.Prelude.{◌≡◌, length};
 use policies::Columns;
 
 // The set stands beside the counts, since each step asks for the lowest ready row.
-#[derive(Clone, Copy)]
+#[derive(Clone, Copy, PartialEq, Eq, Debug)]
 pub struct Tally {
     pub counts: [u16; 256],
     pub ready: Columns,

@@ -5,7 +5,7 @@ use codes::{Listed, Record};
 use policies::{Component, First, Heaviest, Policy};
 use std::process::Abort;
 use std::test::Fail;
-use symbols::{Bit, Symbol};
+use symbols::Bit;
 
 const O: Bit = Bit::Zero;
 
@@ -48,23 +48,7 @@ fn several(pivots: u32, additions: u32, free: u32) -> Result<Report, Unfound> {
 }
 
 fn all_are(words: &[u64], value: u64) -> bool {
-    for w in words {
-        if *w != value {
-            return false;
-        }
-    }
-    true
-}
-
-fn same(xs: &[Bit], ys: &[Bit]) -> bool {
-    for (x, y) in xs.iter().zip(ys) {
-        let mut sum = *x;
-        sum.add(y);
-        if !sum.is_zero() {
-            return false;
-        }
-    }
-    true
+    words.iter().all(|w| *w == value)
 }
 
 // Marks places as missing, and leaves ones in them.
@@ -98,9 +82,9 @@ fn tells<P: Policy>(
     let answer = search(&code, policy, &mut table, &received, &mut words, &mut sides);
     assert_eq!(rt; answer, told);
     assert!(rt; all_are(&words[0..24], 0) && all_are(&words[24..26], 1));
-    assert!(rt; same(&sides, &[O, O, O, I, I]));
+    assert_eq!(rt; sides, [O, O, O, I, I]);
     let due = if told.is_ok() { *sent } else { before };
-    assert!(rt; same(&table, &due));
+    assert_eq!(rt; table, due);
     Ok(())
 }
 
@@ -147,6 +131,8 @@ fn refused_untouched(rt: HostRuntime) -> Result<(), Fail> {
         &mut sides,
     );
     assert_eq!(rt; short, Err(Unfound::ShortMemory(3)));
-    assert!(rt; same(&table, &SENT) && all_are(&words, 1) && same(&sides, &[I, I, I]));
+    assert_eq!(rt; table, SENT);
+    assert_eq!(rt; sides, [I, I, I]);
+    assert!(rt; all_are(&words, 1));
     Ok(())
 }

@@ -5,7 +5,7 @@ ghost use Rattle.policies.specs.Shown.{shown};
 use policies::Columns;
 
 // The set stands beside the columns, since a policy is shown it.
-#[derive(Clone, Copy)]
+#[derive(Clone, Copy, PartialEq, Eq, Debug)]
 pub struct Uses {
     pub unused: Columns,
     pub columns: [u16; 256],

@@ -23,7 +23,6 @@ impl<S: Symbol> Elimination<'_, S> {
         requires going { Going S.Symbol.kind self.old }
         requires wide { self.old.active.width ≡ (C.Rows.matrix code.now).width }
         requires high { length self.old.sides.now ≡ height (C.Rows.matrix code.now) }
-        requires within { length self.old.words.now ≡ 8 * length self.old.sides.now }
         ensures words { self.new.words.ghost_name ≡ self.old.words.ghost_name }
         ensures sides { self.new.sides.ghost_name ≡ self.old.sides.ghost_name }
         ensures run { (received : List Bool) (table : List S) → bare S.Symbol.kind self.old ≡ start S.Symbol.kind (C.Rows.matrix code.now) (marks_in (C.Rows.matrix code.now) received) table tt → Run S.Symbol.kind P.Policy.choice (C.Rows.matrix code.now) received table policy.old policy.new self.new.words.now self.new.sides.now result }
@@ -56,19 +55,16 @@ impl<S: Symbol> Elimination<'_, S> {
 
 // A search in memory of just the size of the code.
 fn run<S: Symbol, C: Code, P: Policy>(
-    code: &C,
+    heard: &Heard<'_, S, C>,
     policy: &mut P,
-    heard: &Heard<'_, S>,
     words: &mut [u64],
     sides: &mut [S],
 ) -> Result<Found, Unfound>
-    requires wide { length heard.now.table.now ≡ (C.Rows.matrix code.now).width }
-    requires high { length sides.old ≡ height (C.Rows.matrix code.now) }
+    requires high { length sides.old ≡ height (C.Rows.matrix heard.now.code.now) }
     requires within { length words.old ≡ 8 * length sides.old }
-    ensures { Run S.Symbol.kind P.Policy.choice (C.Rows.matrix code.now) heard.now.received.now heard.now.table.now policy.old policy.new words.new sides.new result }
+    ensures { Run S.Symbol.kind P.Policy.choice (C.Rows.matrix heard.now.code.now) heard.now.received.now heard.now.table.now policy.old policy.new words.new sides.new result }
 {
-    let mut search = heard.load(code, words, sides);
-    search.solve(code, policy)
+    heard.load(words, sides).solve(heard.code, policy)
 }
 
 // Searches the codewords of a code that agree with a table at the places received, with a policy, in working memory of
@@ -92,13 +88,12 @@ pub fn look<S: Symbol, C: Code, P: Policy>(
     if words.len() < 8 * m || sides.len() < m {
         return Err(Unfound::ShortMemory(m));
     }
-    run(
+    let heard = Heard {
         code,
-        policy,
-        &Heard { table, received },
-        &mut words[..8 * m],
-        &mut sides[..m],
-    )
+        table,
+        received,
+    };
+    run(&heard, policy, &mut words[..8 * m], &mut sides[..m])
 }
 
 // Writes the symbol of each missing place.
@@ -106,6 +101,7 @@ fn fill<S: Symbol>(table: &mut [S], received: &[bool; 512], found: &Found, sides
     requires { length table.old ≤ 512 }
     ensures { table.new ≡ read_out S.Symbol.kind found.now received.now sides.now table.old }
 {
+    // By place, since after a `zip` over `iter_mut` a proof knows no element.
     for (c, place) in table.iter_mut().enumerate() {
         if !received[c] {
             *place = found.symbol(sides, c);

@@ -28,8 +28,8 @@ put_pivot-requires-clause-active g c =
     let k = g.C.Rows.matrix c.args.code.now in
     named_active (g.P.Policy.choice k) (g.met.P.Policy.names k) c.args.policy.now c.name.new.self (shown e.active) (shown e.uses.unused) c.in-Some-name.c c.in-Some-name.ensures
 
-pub returns-in-Some-name-clause-stepped : goal.returns-in-Some-name-clause-stepped
-returns-in-Some-name-clause-stepped g c =
+pub returns-clause-stepped : goal.returns-clause-stepped
+returns-clause-stepped g c =
     let e = c.args.self.now in
     let K = g.S.Symbol.kind in
     let k = g.C.Rows.matrix c.args.code.now in
@@ -41,12 +41,12 @@ returns-in-Some-name-clause-stepped g c =
     let st = c.put_pivot.ensures.state in
     let u = sym (map_unused K e.active.width e.words.now e.sides.now e.uses e.high) in
     record {
-      is = ap (with_policy q) st ∙ sym (step_name K choice (view K e p) c.in-Some-name.c h q c.in-None.ensures (asked ∙ ap (choice p (shown e.active)) u));
+      is = ap (with_policy q) st ∙ sym (step_name K choice (view K e p) c.in-Some-name.c h q c.in_default.ensures (asked ∙ ap (choice p (shown e.active)) u));
       fewer = fewer_active (shown e.active) (shown c.put_pivot.new.self.active) c.in-Some-name.c (ap (λ s. s.active) st) h;
     }
 
-pub returns-in-None-name : goal.returns-in-None-name
-returns-in-None-name g c =
+pub returns-in_default-name-clause-stepped : goal.returns-in_default-name-clause-stepped
+returns-in_default-name-clause-stepped g c =
     let e = c.args.self.now in
     let k = g.C.Rows.matrix c.args.code.now in
-    absurd (never_none (g.P.Policy.choice k) (g.met.P.Policy.names k) c.args.policy.now c.name.new.self (shown e.active) (shown e.uses.unused) c.least.result c.least.ensures c.if-is_none.ensures c.in-None-name.ensures)
+    absurd (never_none (g.P.Policy.choice k) (g.met.P.Policy.names k) c.args.policy.now c.name.new.self (shown e.active) (shown e.uses.unused) c.least.result c.least.ensures c.if-is_none.ensures c.in_default-name.ensures)

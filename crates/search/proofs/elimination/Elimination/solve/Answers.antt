@@ -13,7 +13,7 @@ returns-then-clashes-clause-run g c received table begun =
     let e = c.eliminate.new.self in
     let is = ended K choice k received table p q c.args.self.now e begun c.eliminate.ensures.state in
     let high : length e.sides.now ≡ height k = c.eliminate.ensures.memory.high ∙ c.requires.high in
-    let zeros = c.wipe.ensures ∙ ap (λ n. replicate n 0) (omega (arith, c.eliminate.ensures.memory.long, c.requires.within, c.requires.high)) in
+    let zeros = c.wipe.ensures ∙ ap (λ n. replicate n 0) (omega (arith, c.eliminate.ensures.memory.long, c.args.self.now.within, c.requires.high)) in
     run_none K choice k received table p q e is high c.len.result c.len.ensures.value c.wipe.new.words zeros
     (c.if-clashes.ensures e.active.width e.words.now) c.wipe-then-clashes.new.sides c.wipe-then-clashes.ensures
 
@@ -27,7 +27,7 @@ returns-then-free-gt0-clause-run g c received table begun =
     let e = c.eliminate.new.self in
     let is = ended K choice k received table p q c.args.self.now e begun c.eliminate.ensures.state in
     let high : length e.sides.now ≡ height k = c.eliminate.ensures.memory.high ∙ c.requires.high in
-    let zeros = c.wipe.ensures ∙ ap (λ n. replicate n 0) (omega (arith, c.eliminate.ensures.memory.long, c.requires.within, c.requires.high)) in
+    let zeros = c.wipe.ensures ∙ ap (λ n. replicate n 0) (omega (arith, c.eliminate.ensures.memory.long, c.args.self.now.within, c.requires.high)) in
     run_several K choice k received table p q e is high c.len.result c.len.ensures.value c.wipe.new.words zeros
     c.len-free.result c.len-free.ensures.value c.if-free-gt0.true (c.if-clashes.ensures e.active.width e.words.now) c.wipe-then-free-gt0.new.sides c.wipe-then-free-gt0.ensures
 
@@ -41,6 +41,6 @@ returns-clause-run g c received table begun =
     let e = c.eliminate.new.self in
     let is = ended K choice k received table p q c.args.self.now e begun c.eliminate.ensures.state in
     let high : length e.sides.now ≡ height k = c.eliminate.ensures.memory.high ∙ c.requires.high in
-    let zeros = c.wipe.ensures ∙ ap (λ n. replicate n 0) (omega (arith, c.eliminate.ensures.memory.long, c.requires.within, c.requires.high)) in
+    let zeros = c.wipe.ensures ∙ ap (λ n. replicate n 0) (omega (arith, c.eliminate.ensures.memory.long, c.args.self.now.within, c.requires.high)) in
     run_one K choice k received table p q e is high c.len.result c.len.ensures.value c.wipe.new.words zeros
     c.len-free.result c.len-free.ensures.value c.if-free-gt0.false (c.if-clashes.ensures e.active.width e.words.now) _ refl c.places.ensures

@@ -5,9 +5,8 @@ use Rattle.search.proofs.heard.Heard.load.Goals as goal
 
 pub begin-requires : goal.begin-requires
 begin-requires g c =
-    let ok = g.C.Rows.lawful c.args.code.now in
+    let ok = g.C.Rows.lawful c.args.self.now.code.now in
     record {
-      wide = omega (arith, c.requires.wide, ok.few_columns);
       few = omega (arith, c.load_rows-counts.auto.sides, c.requires.high, ok.few_rows);
       within = omega (arith, c.load_rows-counts.auto.sides, c.load_rows-counts.auto.words, c.requires.within);
     }
@@ -15,8 +14,8 @@ begin-requires g c =
 pub returns : goal.returns
 returns g c =
     let K = g.S.Symbol.kind in
-    let k = g.C.Rows.matrix c.args.code.now in
-    let ok = g.C.Rows.lawful c.args.code.now in
+    let k = g.C.Rows.matrix c.args.self.now.code.now in
+    let ok = g.C.Rows.lawful c.args.self.now.code.now in
     let received = c.args.self.now.received.now in
     let table = c.args.self.now.table.now in
     let counts = c.load_rows-counts.result in
@@ -25,7 +24,7 @@ returns g c =
     let high : length e.sides.now ≡ length c.args.sides.now = ap length is.rights ∙ c.load_rows-counts.auto.sides in
     let wide : k.width ≤ length received = omega (arith, ok.few_columns, c.args.self.now.each) in
     let loaded = loaded_moved K k received table is.lines is.rights high c.load_rows-counts.ensures in
-    let begun = begun_moved (sym c.requires.wide) (ap length is.rights) is.begun in
+    let begun = begun_moved (sym c.args.self.now.wide) (ap length is.rights) is.begun in
     record {
       words = is.words;
       sides = is.sides;

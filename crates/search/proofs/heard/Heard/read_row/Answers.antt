@@ -12,31 +12,31 @@ use Rattle.search.proofs.heard.Heard.read_row.Goals as goal
 pub bounds-self-c : goal.bounds-self-c
 bounds-self-c g c =
     let m = g.C.Rows.matrix in
-    let k = m c.args.code.now in
-    let ok = g.C.Rows.lawful c.args.code.now in
+    let k = m c.args.self.now.code.now in
+    let ok = g.C.Rows.lawful c.args.self.now.code.now in
     omega (arith, row_small m k c.args.r c.row-c-items.ensures c.into_iter-c-iterator.ensures.into_iter_gives c.loop-c.yielded _ c.loop-c.yielded_by ok c.in-Some.c _ c.in-Some.ensures.steps, ok.few_columns)
 
 pub push-requires : goal.push-requires
 push-requires g c =
     let m = g.C.Rows.matrix in
-    let k = m c.args.code.now in
-    let ok = g.C.Rows.lawful c.args.code.now in
+    let k = m c.args.self.now.code.now in
+    let ok = g.C.Rows.lawful c.args.self.now.code.now in
     let place = row_place m k c.args.r c.row-c-items.ensures c.into_iter-c-iterator.ensures.into_iter_gives c.loop-c.yielded _ c.loop-c.yielded_by c.in-Some.c _ c.in-Some.ensures.steps in
     (omega arith, omega (arith, place.0, c.loop-c.invariant.few, row_few k ok c.args.r))
 
 pub overflow_add-lost : goal.overflow_add-lost
 overflow_add-lost g c =
     let m = g.C.Rows.matrix in
-    let k = m c.args.code.now in
-    let ok = g.C.Rows.lawful c.args.code.now in
+    let k = m c.args.self.now.code.now in
+    let ok = g.C.Rows.lawful c.args.self.now.code.now in
     let place = row_place m k c.args.r c.row-c-items.ensures c.into_iter-c-iterator.ensures.into_iter_gives c.loop-c.yielded _ c.loop-c.yielded_by c.in-Some.c _ c.in-Some.ensures.steps in
     omega (arith, place.0, c.loop-c.invariant.few, row_few k ok c.args.r)
 
 pub loop-c-preserved-then-self-c : goal.loop-c-preserved-then-self-c
 loop-c-preserved-then-self-c g c =
     let m = g.C.Rows.matrix in
-    let k = m c.args.code.now in
-    let ok = g.C.Rows.lawful c.args.code.now in
+    let k = m c.args.self.now.code.now in
+    let ok = g.C.Rows.lawful c.args.self.now.code.now in
     let received = c.args.self.now.received.now in
     let d = c.in-Some.c in
     let low : d < k.width = row_small m k c.args.r c.row-c-items.ensures c.into_iter-c-iterator.ensures.into_iter_gives c.loop-c.yielded _ c.loop-c.yielded_by ok d _ c.in-Some.ensures.steps in
@@ -47,8 +47,8 @@ loop-c-preserved-then-self-c g c =
 pub loop-c-preserved : goal.loop-c-preserved
 loop-c-preserved g c =
     let m = g.C.Rows.matrix in
-    let k = m c.args.code.now in
-    let ok = g.C.Rows.lawful c.args.code.now in
+    let k = m c.args.self.now.code.now in
+    let ok = g.C.Rows.lawful c.args.self.now.code.now in
     let received = c.args.self.now.received.now in
     let d = c.in-Some.c in
     let low : d < k.width = row_small m k c.args.r c.row-c-items.ensures c.into_iter-c-iterator.ensures.into_iter_gives c.loop-c.yielded _ c.loop-c.yielded_by ok d _ c.in-Some.ensures.steps in
@@ -60,7 +60,7 @@ pub returns : goal.returns
 returns g c =
     let m = g.C.Rows.matrix in
     let K = g.S.Symbol.kind in
-    let k = m c.args.code.now in
+    let k = m c.args.self.now.code.now in
     let got = marks_in k c.args.self.now.received.now in
     let all = row_end m k c.args.r c.row-c-items.ensures c.into_iter-c-iterator.ensures.into_iter_gives c.loop-c.yielded _ c.loop-c.yielded_by c.in-None.ensures.steps.0 in
     let so = subst (λ cs. Reading got cs c.loop-c.line c.loop-c.heard.items c.loop-c.lost) all c.loop-c.invariant in

@@ -1,5 +1,0 @@
-use Rattle.std.proofs.Common.{◌≡◌, ℕ, ◌<◌, get_or}
-use Rattle.search.proofs.read.fill_first.Given as goal
-
-abbrev pub invariant-loop-side : goal.invariant-loop-side
-invariant-loop-side g l = (k : ℕ) → k < l.side-index → get_or l.side-items k l.z ≡ l.z
