@@ -1,5 +1,5 @@
 -- Each order with its entry: what it makes of a day, from what the block's call ensures.
-use Rattle.std.proofs.Common.{◌≡◌, ℕ, false, List, [], ◌∷◌, ◌++◌, length, Some, None, Ok, Err, Option, Result, sym, refl, ap, ◌∙◌, subst, arith}
+use Rattle.std.proofs.Common.{◌≡◌, ℕ, true, false, is_some, List, [], ◌∷◌, ◌++◌, length, Some, None, Ok, Err, Option, Result, sym, refl, ap, ◌∙◌, subst, arith}
 use borrow.Author.Tests.{clash}
 use Rattle.symbols.specs.Kinds.{Kind}
 use Rattle.codes.specs.Matrix.{Matrix}
@@ -14,15 +14,16 @@ use Rattle.receiver.specs.Calls.Call.{solve}
 use Rattle.receiver.specs.History.{Event, Opened, Truths}
 use Rattle.receiver.specs.History.Event.{closed}
 use Rattle.receiver.specs.Blocks.{Block, seen, filled, renewed_block}
-use Rattle.receiver.specs.Steps.{Step, receive_event, renew_event}
+use Rattle.receiver.specs.Steps.{Step, receive_event, shown_event, renew_event}
 use Rattle.receiver.specs.Solves.{search_of, found_of, after_search, answer_of, solve_event, outcome, named, solved, solved_by}
 use Rattle.receiver.specs.Stands.{GoesOn}
 use Rattle.receiver.proofs.Refusing.{no_cause}
-use Rattle.days.specs.Days.{Now, now_of, permit_of, Holding, Obeyed, on, day_on, DayTrue}
+use Rattle.receiver.specs.Holding.{Holding, ClosedUnder}
+use Rattle.days.specs.Days.{Now, now_of, permit_of, Obeyed, on, day_on, DayTrue}
 use Rattle.days.specs.declared.order.Order.{Order}
 use Rattle.days.specs.declared.order.Entry.{Entry}
 use Rattle.days.specs.declared.order.Order.TheVariants.{Receive, Solve, Show, Close, Renew}
-use Rattle.days.specs.declared.order.Entry.TheVariants.{Received, Solved, Closed, Renewed, NoPermit}
+use Rattle.days.specs.declared.order.Entry.TheVariants.{Received, Solved, Shown, Closed, Renewed, NoPermit}
 
 module _ {S P : Type 0} (K : Kind S) (choice : Matrix → Choice P) (k : Matrix) (nw ns : ℕ) where
   pub received : (m m' : Block S) (b s p : ℕ) (x : S) (r : Result (Unit {0}) Fault) (st : P) (q : Option Permit) → Step K m (receive_event b s p x r) m' → GoesOn K m (receive_event b s p x r ∷ []) m'
@@ -63,13 +64,19 @@ module _ {S P : Type 0} (K : Kind S) (choice : Matrix → Choice P) (k : Matrix)
     holding = λ h. subst (λ n. Holding n q) (sym step.1) h;
   }
 
-  pub shut : (m m' : Block S) (q : Permit) (st : P) → Step K m (closed q) m' → GoesOn K m (closed q ∷ []) m' → Obeyed K choice k nw ns m m' st st (Some q) None Close Closed
-  shut m m' q st step goes = record {
+  -- a close under the permit in hand, and where none is
+  pub shut : (m m' : Block S) (q : Option Permit) (st : P) → is_some q ≡ true → ClosedUnder K m q m' → Obeyed K choice k nw ns m m' st st q None Close Closed
+  shut m m' None st e done = cc
+  shut m m' (Some q) st e done = record {
     events = closed q ∷ [];
-    told = λ h. ap (λ n. Some (now_of n st None (closed q ∷ h))) (sym step.1);
-    history = goes;
-    holding = λ h. ap (λ n. n.out) step.1;
+    told = λ h. ap (λ n. Some (now_of n st None (closed q ∷ h))) (sym done.0.1);
+    history = done.1;
+    holding = λ h. ap (λ n. n.out) done.0.1;
   }
+
+  pub not_shut : (m m' : Block S) (q : Option Permit) (st : P) → is_some q ≡ false → ClosedUnder K m q m' → Obeyed K choice k nw ns m m' st st q None Close NoPermit
+  not_shut m m' None st e same = subst (λ n. Obeyed K choice k nw ns m n st st None None Close NoPermit) (sym same) (record { events = []; told = λ h. refl; history = λ o h s. s; holding = λ h. h })
+  not_shut m m' (Some q) st e done = cc
 
 -- what a solve leaves of the block and the policy does not go by what its memory held
 module _ {S P : Type 0} (K : Kind S) (choice : Matrix → Choice P) (k : Matrix) (m : Block S) (p : P) where
@@ -144,6 +151,14 @@ module _ {S P : Type 0} (K : Kind S) (choice : Matrix → Choice P) (k : Matrix)
         history = goes;
         holding = λ h. subst (λ n. Holding n held) (sym same) h;
       }
+
+-- a show under the permit in hand
+module _ {S P : Type 0} (K : Kind S) (choice : Matrix → Choice P) (k : Matrix) (nw ns : ℕ) (m : Block S) (st : P) where
+  pub shown : (q : Option Permit) (a : Permit) (p : ℕ) (r : Result S Fault) → q ≡ Some a → Step K m (shown_event a p r) m → GoesOn K m (shown_event a p r ∷ []) m
+      → Obeyed K choice k nw ns m m st st q q (Show p) (Shown r)
+  shown q a p r is step goes =
+      subst (λ q. Obeyed K choice k nw ns m m st st q q (Show p) (Shown r)) (sym is)
+      (record { events = shown_event a p r ∷ []; told = λ h. refl; history = goes; holding = λ h. h })
 
 -- a show without a permit leaves everything as it was
 module _ {S P : Type 0} (K : Kind S) (choice : Matrix → Choice P) (k : Matrix) (nw ns : ℕ) (m : Block S) (p : P) where

@@ -5,14 +5,11 @@
 --   day_on        what the orders of a day and the entries of its log make of it
 --   DayTrue       one entry for each order, each belonging to it, and every event that they tell was true when it came
 --   Obeyed        what obeying one order does
---   Holding       the permit in hand is the block's, and none is in hand only where none is out
 use Rattle.std.specs.Prelude.{◌≡◌, ℕ, List, [], ◌∷◌, ◌++◌, Some, None, Ok, Err, Option, Result}
 use Rattle.symbols.specs.Kinds.{Kind}
 use Rattle.codes.specs.Matrix.{Matrix}
 use Rattle.method.specs.Method.{Choice}
 use Rattle.search.specs.declared.answer.Report.{Report}
-use Rattle.receiver.specs.declared.block.Out.TheVariants.{Nothing, Full}
-use Rattle.receiver.specs.declared.fault.Fault.{Fault}
 use Rattle.receiver.specs.declared.fault.Unsolved.{Unsolved}
 use Rattle.receiver.specs.declared.permit.Permit.{Permit}
 use Rattle.receiver.specs.Calls.{refusal}
@@ -20,7 +17,8 @@ use Rattle.receiver.specs.Calls.Call.{solve}
 use Rattle.receiver.specs.History.{Event, Opened, Truths}
 use Rattle.receiver.specs.History.Event.{closed}
 use Rattle.receiver.specs.Blocks.{Block, seen, filled, closed_block, renewed_block}
-use Rattle.receiver.specs.Steps.{receive_event, show_event, renew_event}
+use Rattle.receiver.specs.Holding.{Holding}
+use Rattle.receiver.specs.Steps.{receive_event, shown_event, renew_event}
 use Rattle.receiver.specs.Solves.{search_of, solve_event, named, solved_by}
 use Rattle.receiver.specs.Stands.{GoesOn}
 use Rattle.days.specs.declared.order.Order.{Order}
@@ -52,19 +50,6 @@ abbrev pub in_hand : {S : Type 0} → Block S → Result Report Unsolved → Opt
 in_hand m (Ok r) q = Some (permit_of m r)
 in_hand m (Err u) q = q
 
--- the symbol that a show copied
-abbrev pub copied : {S : Type 0} → S → Result S Fault → S
-copied z (Ok x) = x
-copied z (Err f) = z
-
-abbrev pub shown_answer : {S : Type 0} → Result S Fault → Result (Unit {0}) Fault
-shown_answer (Ok x) = Ok tt
-shown_answer (Err f) = Err f
-
-abbrev pub Holding : {S : Type 0} → Block S → Option Permit → Type 0
-Holding m None = m.out ≡ Nothing
-Holding m (Some q) = (m.out ≡ Full) × (q.number ≡ m.number) × (q.stamp ≡ m.stamp)
-
 module _ {S P : Type 0} (K : Kind S) (choice : Matrix → Choice P) (k : Matrix) (words symbols : ℕ) where
   abbrev pub moved : Now S P → Event S → Block S → P → Option Permit → Option (Now S P)
   moved x e m p q = Some (record { block = m; policy = p; held = q; history = e ∷ x.history })
@@ -88,7 +73,7 @@ module _ {S P : Type 0} (K : Kind S) (choice : Matrix → Choice P) (k : Matrix)
   on_solve x NoPermit = None
 
   abbrev pub on_show : Now S P → Option Permit → (place : ℕ) → Entry S → Option (Now S P)
-  on_show x (Some q) p (Shown r) = moved x (show_event q p (copied K.zero r) (shown_answer r)) x.block x.policy x.held
+  on_show x (Some q) p (Shown r) = moved x (shown_event q p r) x.block x.policy x.held
   on_show x (Some q) p (Received r) = None
   on_show x (Some q) p (Solved r) = None
   on_show x (Some q) p Closed = None

@@ -5,9 +5,7 @@ use Rattle.std.specs.Prelude.{◌≡◌, ℕ, List, [], length, Some, None, Ok, 
 use Rattle.symbols.specs.Kinds.{Kind}
 use Rattle.codes.specs.Matrix.{Matrix}
 use Rattle.method.specs.Method.{Choice}
-use Rattle.receiver.specs.Refusals.{meaning, value_of}
 use Rattle.receiver.specs.Calls.{open_refusal}
-use Rattle.receiver.specs.declared.fault.Fault.{Fault}
 use Rattle.receiver.specs.Blocks.{opened}
 use Rattle.receiver.specs.Stands.{opening}
 use Rattle.days.specs.declared.day.Unbegun.{Unbegun}
@@ -20,6 +18,5 @@ abbrev pub Day : {S P : Type 0} → Kind S → (Matrix → Choice P) → Matrix 
 Day K choice k ws ss b s table p orders log log' (Ok u) =
     (open_refusal b s (length table) ≡ None)
     × DayTrue K (opening b s (length table)) (day_on K choice k ws ss (Some (now_of (opened K b s table) p None [])) orders log')
-Day K choice k ws ss b s table p orders log log' (Err (Refused n v)) =
-    (log' ≡ log) × ((f : Fault) × (open_refusal b s (length table) ≡ Some f) × (n ≡ (meaning f).number) × (v ≡ value_of (meaning f)))
+Day K choice k ws ss b s table p orders log log' (Err (Refused f)) = (log' ≡ log) × (open_refusal b s (length table) ≡ Some f)
 Day K choice k ws ss b s table p orders log log' (Err (LogLength n)) = (log' ≡ log) × (n ≡ length log) × (length log ≢ length orders)

@@ -6,26 +6,12 @@ ghost use Rattle.receiver.specs.View.{model};
 ghost use Rattle.days.specs.Days.{now_of, day_on, DayTrue};
 ghost use Rattle.days.specs.Whole.{Day};
 
-use crate::desk::Desk;
+use crate::obey::obey;
 use crate::order::{Entry, Order};
 use codes::Code;
 use policies::Policy;
-use receiver::{Block, Stamp};
+use receiver::{Block, Desk, Fault, Stamp, open_fault};
 use symbols::Symbol;
-
-impl<'a, S: Symbol> Desk<'a, S> {
-    // Closes the block where a permit is left in hand.
-    fn end(&mut self)
-        ensures { self.new.held ≡ None }
-    {
-        if let Some(permit) = self.held.take() {
-            match self.block.close(permit) {
-                Ok(()) => {}
-                Err(_kept) => unreachable(),
-            }
-        }
-    }
-}
 
 // Obeys one order after another, and closes the block where a permit is left in hand.
 fn serve<S: Symbol, C: Code, P: Policy>(
@@ -41,16 +27,17 @@ fn serve<S: Symbol, C: Code, P: Policy>(
     ensures day { (o : Opened) → Stands S.Symbol.kind o [] (model desk.old.block) → DayTrue S.Symbol.kind o (day_on S.Symbol.kind P.Policy.choice (C.Rows.matrix code.now) (length words.old) (length sides.old) (Some (now_of (model desk.old.block) policy.old desk.old.held [])) orders.now log.new) }
     ensures held { desk.new.held ≡ None }
 {
+    // By place, since after a `zip` over `iter_mut` a proof knows no element.
     for (i, order) in orders.iter().enumerate() {
-        log[i] = desk.obey(code, policy, words, sides, *order);
+        log[i] = obey(desk, code, policy, words, sides, *order);
     }
-    desk.end();
+    desk.close();
 }
 
-// Why a day was not begun: its open was refused, with the number and value of that refusal, or its log is not as long as its orders.
+// Why a day was not begun: its open was refused, or its log is not as long as its orders.
 #[derive(Clone, Copy, PartialEq, Eq, Debug)]
 pub enum Unbegun {
-    Refused(u8, u64),
+    Refused(Fault),
     LogLength(usize),
 }
 
@@ -72,11 +59,11 @@ pub fn day<S: Symbol, C: Code, P: Policy>(
     if log.len() != orders.len() {
         return Err(Unbegun::LogLength(log.len()));
     }
-    let block = Block::open(number, stamp, table);
-    if let Some((cause, value)) = block.refusal() {
-        return Err(Unbegun::Refused(cause, value));
-    }
-    let mut desk = Desk { block, held: None };
+    open_fault(number, stamp, table.len()).map_err(|fault| Unbegun::Refused(fault))?;
+    let mut desk = Desk {
+        block: Block::open(number, stamp, table),
+        held: None,
+    };
     serve(&mut desk, code, policy, words, sides, orders, log);
     let Desk { block: _, held } = desk;
     match held {

@@ -2,7 +2,6 @@
 #![tactic(auto)]
 
 mod day;
-mod desk;
 mod obey;
 mod order;
 

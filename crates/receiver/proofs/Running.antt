@@ -21,6 +21,11 @@ run_took s m mid m' bs p rest n r e l some step runs =
 pub run_stopped : (s : ℕ) (m m' : Block Cell) (bs p rest : List ℕ) (n at : ℕ) (f : Layer) → bs ≡ p ++ rest → length p ≡ min 68 (length bs) → 0 < length bs → PacketStep {U = Unit {0}} m s p (Err f) m' → Runs s m (packets_in bs) n at (Err (stopped_at at f)) m'
 run_stopped s m m' bs p rest n at f e l some step = subst (λ ps. Runs s m ps n at (Err (stopped_at at f)) m') (sym (packets_front bs p rest e l some)) (inr (f, step, refl))
 
+-- with no bytes left a run is over, and has taken as many as were taken before
+pub run_over : (s : ℕ) (m : Block Cell) (bs : List ℕ) (n at k : ℕ) → length bs ≡ 0 → k ≡ n → Runs s m (packets_in bs) n at (Ok k) m
+run_over s m [] n at k none same = (ap (λ j. Ok j) same, refl)
+run_over s m (b ∷ bs) n at k none same = absurd (omega (arith, none))
+
 -- where a refused run stopped
 abbrev stopped_of : Stopped → Result ℕ Stopped → Stopped
 stopped_of d (Ok n) = d

@@ -1,54 +1,37 @@
--- Filling the missing places of a table: the steps of the loops that do it, and what stands there then.
-use Rattle.std.proofs.Common.{◌≡◌, ℕ, zero, suc, ◌+◌, ◌<◌, ◌≤◌, Bool, true, false, cond, List, [], ◌∷◌, ◌++◌, length, get_or, take, drop, set, replicate, refl, ap, ◌∙◌, add-one, arith, length-append, length-drop}
+-- Making the missing places of a table zero: the steps of the loop that does it, and what stands there then.
+use Rattle.std.proofs.Common.{◌≡◌, ℕ, zero, suc, ◌+◌, ◌<◌, ◌≤◌, Bool, true, false, List, [], ◌∷◌, ◌++◌, length, get_or, take, drop, set, replicate, refl, ap, ◌∙◌, add-one, arith, length-append, length-drop}
 use lib.ListN.{length-replicate}
 use Rattle.std.proofs.lemmas.List.{take-replicate}
 use Rattle.std.proofs.lemmas.Bool.{both_ways}
-use Rattle.method.specs.Sets.{table}
-use Rattle.receiver.specs.Blocks.{fill_missing, zero_missing}
-
-module _ {S : Type 0} where
-  missing_suc : (f : ℕ → S) (rs : List Bool) (xs : List S) (i : ℕ) → i < length rs → get_or rs i false ≡ false → set (fill_missing f (take i rs) xs) i (f i) ≡ fill_missing f (take (suc i) rs) xs
-  missing_suc f [] xs i h e = absurd (omega arith)
-  missing_suc f (r ∷ rs) [] zero h e = refl
-  missing_suc f (r ∷ rs) [] (suc i) h e = refl
-  missing_suc f (false ∷ rs) (x ∷ xs) zero h e = refl
-  missing_suc f (true ∷ rs) (x ∷ xs) zero h e = absurd (both_ways true e refl)
-  missing_suc f (false ∷ rs) (x ∷ xs) (suc i) h e = ap (λ ys. f 0 ∷ ys) (missing_suc (λ c. f (suc c)) rs xs i (omega arith) e)
-  missing_suc f (true ∷ rs) (x ∷ xs) (suc i) h e = ap (λ ys. x ∷ ys) (missing_suc (λ c. f (suc c)) rs xs i (omega arith) e)
-
-  received_suc : (f : ℕ → S) (rs : List Bool) (xs : List S) (i : ℕ) → i < length rs → get_or rs i false ≡ true → fill_missing f (take i rs) xs ≡ fill_missing f (take (suc i) rs) xs
-  received_suc f [] xs i h e = absurd (omega arith)
-  received_suc f (r ∷ rs) [] zero h e = refl
-  received_suc f (r ∷ rs) [] (suc i) h e = refl
-  received_suc f (false ∷ rs) (x ∷ xs) zero h e = absurd (both_ways false refl e)
-  received_suc f (true ∷ rs) (x ∷ xs) zero h e = refl
-  received_suc f (false ∷ rs) (x ∷ xs) (suc i) h e = ap (λ ys. f 0 ∷ ys) (received_suc (λ c. f (suc c)) rs xs i (omega arith) e)
-  received_suc f (true ∷ rs) (x ∷ xs) (suc i) h e = ap (λ ys. x ∷ ys) (received_suc (λ c. f (suc c)) rs xs i (omega arith) e)
-
-  -- one missing place more is filled
-  pub missing_more : (f : ℕ → S) (rs : List Bool) (xs : List S) (i : ℕ) → i < length rs → get_or rs i false ≡ false → set (fill_missing f (take i rs) xs) i (f i) ≡ fill_missing f (take (i + 1) rs) xs
-  missing_more f rs xs i h e = rw add-one (missing_suc f rs xs i h e)
-
-  -- one received place more stays
-  pub received_more : (f : ℕ → S) (rs : List Bool) (xs : List S) (i : ℕ) → i < length rs → get_or rs i false ≡ true → fill_missing f (take i rs) xs ≡ fill_missing f (take (i + 1) rs) xs
-  received_more f rs xs i h e = rw add-one (received_suc f rs xs i h e)
-
-  -- the same function at each place fills alike
-  pub fill_same : (f g : ℕ → S) (rs : List Bool) (xs : List S) → ((c : ℕ) → c < length rs → f c ≡ g c) → fill_missing f rs xs ≡ fill_missing g rs xs
-  fill_same f g [] xs h = refl
-  fill_same f g (r ∷ rs) [] h = refl
-  fill_same f g (true ∷ rs) (x ∷ xs) h = ap (λ ys. x ∷ ys) (fill_same (λ c. f (suc c)) (λ c. g (suc c)) rs xs (λ c lt. h (suc c) (omega arith)))
-  fill_same f g (false ∷ rs) (x ∷ xs) h =
-      λ i. h 0 (omega arith) i ∷ fill_same (λ c. f (suc c)) (λ c. g (suc c)) rs xs (λ c lt. h (suc c) (omega arith)) i
-
-  -- place by place: what was received, and what fills the rest
-  pub fill_places : (f : ℕ → S) (d : S) (rs : List Bool) (xs : List S) → length rs ≤ length xs → fill_missing f rs xs ≡ table (length rs) (λ c. cond (get_or rs c false) (get_or xs c d) (f c)) ++ drop (length rs) xs
-  fill_places f d [] xs h = refl
-  fill_places f d (r ∷ rs) [] h = absurd (omega arith)
-  fill_places f d (true ∷ rs) (x ∷ xs) h = ap (λ ys. x ∷ ys) (fill_places (λ c. f (suc c)) d rs xs (omega arith))
-  fill_places f d (false ∷ rs) (x ∷ xs) h = ap (λ ys. f 0 ∷ ys) (fill_places (λ c. f (suc c)) d rs xs (omega arith))
+use Rattle.receiver.specs.Blocks.{zero_missing}
 
 module _ {S : Type 0} (z : S) where
+  missing_suc : (rs : List Bool) (xs : List S) (i : ℕ) → i < length rs → get_or rs i false ≡ false → set (zero_missing z (take i rs) xs) i z ≡ zero_missing z (take (suc i) rs) xs
+  missing_suc [] xs i h e = absurd (omega arith)
+  missing_suc (r ∷ rs) [] zero h e = refl
+  missing_suc (r ∷ rs) [] (suc i) h e = refl
+  missing_suc (false ∷ rs) (x ∷ xs) zero h e = refl
+  missing_suc (true ∷ rs) (x ∷ xs) zero h e = absurd (both_ways true e refl)
+  missing_suc (false ∷ rs) (x ∷ xs) (suc i) h e = ap (λ ys. z ∷ ys) (missing_suc rs xs i (omega arith) e)
+  missing_suc (true ∷ rs) (x ∷ xs) (suc i) h e = ap (λ ys. x ∷ ys) (missing_suc rs xs i (omega arith) e)
+
+  received_suc : (rs : List Bool) (xs : List S) (i : ℕ) → i < length rs → get_or rs i false ≡ true → zero_missing z (take i rs) xs ≡ zero_missing z (take (suc i) rs) xs
+  received_suc [] xs i h e = absurd (omega arith)
+  received_suc (r ∷ rs) [] zero h e = refl
+  received_suc (r ∷ rs) [] (suc i) h e = refl
+  received_suc (false ∷ rs) (x ∷ xs) zero h e = absurd (both_ways false refl e)
+  received_suc (true ∷ rs) (x ∷ xs) zero h e = refl
+  received_suc (false ∷ rs) (x ∷ xs) (suc i) h e = ap (λ ys. z ∷ ys) (received_suc rs xs i (omega arith) e)
+  received_suc (true ∷ rs) (x ∷ xs) (suc i) h e = ap (λ ys. x ∷ ys) (received_suc rs xs i (omega arith) e)
+
+  -- one missing place more is zero
+  pub missing_more : (rs : List Bool) (xs : List S) (i : ℕ) → i < length rs → get_or rs i false ≡ false → set (zero_missing z (take i rs) xs) i z ≡ zero_missing z (take (i + 1) rs) xs
+  missing_more rs xs i h e = rw add-one (missing_suc rs xs i h e)
+
+  -- one received place more stays
+  pub received_more : (rs : List Bool) (xs : List S) (i : ℕ) → i < length rs → get_or rs i false ≡ true → zero_missing z (take i rs) xs ≡ zero_missing z (take (i + 1) rs) xs
+  received_more rs xs i h e = rw add-one (received_suc rs xs i h e)
+
   -- with no place received all become zero
   none_received : (n : ℕ) (xs : List S) → n ≤ length xs → zero_missing z (replicate n false) xs ≡ replicate n z ++ drop n xs
   none_received zero xs h = refl

@@ -5,8 +5,8 @@
 --   received_count, mark_at, told_refusal    what a block tells of itself
 --   filled, closed_block, renewed_block    the block after a granted call
 --   opened_by, opened    the block that an open answers, by its refusal or the first cause that refuses it
---   fill_missing, zero_missing    a table with each missing place filled, or zero
-use Rattle.std.specs.Prelude.{ℕ, suc, Bool, true, false, cond, List, [], ◌∷◌, ◌++◌, length, take, drop, replicate, Some, None, count_by, Option, nat_lt, slice_index_or, slice_set}
+--   zero_missing  a table with each missing place zero
+use Rattle.std.specs.Prelude.{ℕ, Bool, true, false, cond, List, [], ◌∷◌, ◌++◌, length, take, drop, replicate, Some, None, count_by, Option, nat_lt, slice_index_or, slice_set}
 use Rattle.symbols.specs.Kinds.{Kind}
 use Rattle.receiver.specs.declared.block.Out.{Out}
 use Rattle.receiver.specs.declared.block.Out.TheVariants.{Nothing}
@@ -40,15 +40,12 @@ mark_at m p = cond (nat_lt p m.n) (Some (slice_index_or m.received p false)) Non
 abbrev pub told_refusal : {S : Type 0} → Block S → Option (ℕ × ℕ)
 told_refusal m = m.refused
 
--- a table with each missing place filled by a function of its number
-abbrev pub fill_missing : {S : Type 0} → (ℕ → S) → List Bool → List S → List S
-fill_missing f [] xs = xs
-fill_missing f (r ∷ rs) [] = []
-fill_missing f (true ∷ rs) (x ∷ xs) = x ∷ fill_missing (λ c. f (suc c)) rs xs
-fill_missing f (false ∷ rs) (x ∷ xs) = f 0 ∷ fill_missing (λ c. f (suc c)) rs xs
-
+-- a table with each missing place zero
 abbrev pub zero_missing : {S : Type 0} → S → List Bool → List S → List S
-zero_missing z rs xs = fill_missing (λ c. z) rs xs
+zero_missing z [] xs = xs
+zero_missing z (r ∷ rs) [] = []
+zero_missing z (true ∷ rs) (x ∷ xs) = x ∷ zero_missing z rs xs
+zero_missing z (false ∷ rs) (x ∷ xs) = z ∷ zero_missing z rs xs
 
 -- the block with a table, flags and whether a permit is out
 abbrev pub with_table : {S : Type 0} → List S → List Bool → Out → Block S → Block S

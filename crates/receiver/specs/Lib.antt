@@ -2,6 +2,7 @@ pub mod Refusals
 pub mod Calls
 pub mod History
 pub mod Blocks
+pub mod Holding
 pub mod Steps
 pub mod Solves
 pub mod Stands

@@ -6,19 +6,15 @@
 --   after_search  the block after the search: with one codeword its places are filled and a permit is out
 --   Done          all that a solve leaves
 --   solved        what a solve leaves, of a block, a policy and working memory
---   Sought        the search of a solve, before the block is filled
 --   solve_event   the event that a solve and its answer make
-use Rattle.std.specs.Prelude.{◌≡◌, ℕ, ◌*◌, not, List, [], ◌∷◌, ◌++◌, length, take, drop, Some, None, Ok, Err, Option, Result, ◌==◌}
+use Rattle.std.specs.Prelude.{ℕ, ◌*◌, List, ◌++◌, length, take, drop, Some, None, Ok, Err, Option, Result}
 use Rattle.symbols.specs.Kinds.{Kind}
 use Rattle.codes.specs.Matrix.{Matrix, height}
 use Rattle.method.specs.Method.{Choice, Outcome, method, final}
 use Rattle.method.specs.Method.Outcome.{none, one, several}
-use Rattle.refusals.specs.Refusals.{Cause, if_so, first_of}
 use Rattle.search.specs.declared.answer.Unfound.{Unfound}
 use Rattle.search.specs.declared.answer.Unfound.TheVariants.{OtherWidth, ShortMemory}
 use Rattle.search.specs.declared.answer.Unfound.TheVariants as lacks
-use Rattle.search.specs.declared.found.Found.{Found as Seen}
-use Rattle.search.specs.Searches.{Looked}
 use Rattle.search.specs.Answers.{report_of}
 use Rattle.search.specs.Found.{wiped}
 use Rattle.receiver.specs.declared.block.Out.TheVariants.{Full}
@@ -27,7 +23,7 @@ use Rattle.receiver.specs.declared.fault.Fault.TheVariants as fault
 use Rattle.receiver.specs.declared.fault.Unsolved.{Unsolved}
 use Rattle.receiver.specs.declared.fault.Unsolved.TheVariants.{Refused, NoCodeword, Several}
 use Rattle.receiver.specs.declared.permit.Permit.{Permit}
-use Rattle.receiver.specs.Calls.{Search, refusal, is_out}
+use Rattle.receiver.specs.Calls.{Search, refusal}
 use Rattle.receiver.specs.Calls.Call.{solve}
 use Rattle.receiver.specs.History.{Event, Found}
 use Rattle.receiver.specs.History.Event.{refused, searched}
@@ -92,21 +88,3 @@ as_unsolved (OtherWidth n) = Refused (fault.OtherWidth n)
 as_unsolved (ShortMemory r) = Refused (fault.ShortMemory r)
 as_unsolved (lacks.NoCodeword r) = NoCodeword r
 as_unsolved (lacks.Several r k) = Several r k
-
--- what the block itself refuses; the search refuses short memory
-abbrev pub seek_causes : {S : Type 0} → Kind S → Matrix → Block S → List (Cause Fault)
-seek_causes K k m =
-    if_so (is_out m.out) (fault.PermitOut m.stamp)
-    ∷ if_so (not (k.width == m.n)) (fault.OtherWidth k.width)
-    ∷ []
-
--- a search that was refused changes nothing; one that ran is still to be read out of the right sides
-abbrev pub SoughtBy : {S P : Type 0} → Kind S → (Matrix → Choice P) → Matrix → Block S → Option Fault → P → P → List ℕ → List ℕ → List S → List S → Result Seen Unsolved → Type 0
-SoughtBy K choice k m (Some f) p p' ws ws' ss ss' r = (r ≡ Err (Refused f)) × (p' ≡ p) × (ws' ≡ ws) × (ss' ≡ ss)
-SoughtBy K choice k m None p p' ws ws' ss ss' (Ok f) = Looked K choice k m.received (take m.n m.table) p ws ss p' ws' ss' (Ok f)
-SoughtBy K choice k m None p p' ws ws' ss ss' (Err u) =
-    (e : Unfound) × (u ≡ as_unsolved e) × Looked K choice k m.received (take m.n m.table) p ws ss p' ws' ss' (Err e)
-
-abbrev pub Sought : {S P : Type 0} → Kind S → (Matrix → Choice P) → Matrix → Block S → P → P → List ℕ → List ℕ → List S → List S → Result Seen Unsolved → Type 0
-Sought K choice k m p p' ws ws' ss ss' r =
-    SoughtBy K choice k m (first_of (seek_causes K k m)) p p' ws ws' ss ss' r

@@ -1,7 +1,7 @@
 -- What each call does to a block, told as an event: a call with its answer.
 --
 --   Step          the first cause that refuses a call refuses it and leaves the block; a granted call does its work
---   receive_event, show_event, close_event, renew_event    the event that a call and its answer make
+--   receive_event, show_event, shown_event, close_event, renew_event    the event that a call and its answer make
 use Rattle.std.specs.Prelude.{◌≡◌, ℕ, false, Some, None, Ok, Err, Result, ◌==◌, slice_index_or}
 use Rattle.symbols.specs.Kinds.{Kind}
 use Rattle.receiver.specs.declared.fault.Fault.{Fault}
@@ -31,6 +31,11 @@ receive_event b s p x (Err f) = refused (receive b s p x) f
 abbrev pub show_event : {S U : Type 0} → Permit → (place : ℕ) → S → Result U Fault → Event S
 show_event q p x (Ok u) = shown q p x
 show_event q p x (Err f) = refused (show q p) f
+
+-- the same of a show that answers the symbol
+abbrev pub shown_event : {S : Type 0} → Permit → (place : ℕ) → Result S Fault → Event S
+shown_event q p (Ok x) = shown q p x
+shown_event q p (Err f) = refused (show q p) f
 
 abbrev pub close_event : {S U : Type 0} → Permit → Result U Unclosed → Event S
 close_event q (Ok u) = closed q

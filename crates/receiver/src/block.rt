@@ -17,8 +17,9 @@ pub enum Out {
     Full,
 }
 
-// What a block keeps beside its table. The refusal of its open lies in it as plain numbers: its number and its value.
-#[derive(Clone, Copy)]
+// What a block keeps beside its table. The refusal of its open lies in it as plain numbers: its number and its value. The marks
+// are an array, since a block allocates nothing.
+#[derive(Clone, Copy, PartialEq, Eq, Debug)]
 pub struct Marks {
     number: u32,
     stamp: Stamp,

@@ -1,4 +1,4 @@
-// Why a call on a block is refused, and what a search reports.
+// Why a call on a block is refused, and why a solve gave no permit.
 ghost use Rattle.std.specs.Prelude.{◌≡◌};
 ghost use Rattle.receiver.specs.Refusals.{meaning};
 ghost use Rattle.receiver.specs.Solves.{as_unsolved};

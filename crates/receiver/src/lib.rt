@@ -2,6 +2,7 @@
 #![tactic(auto)]
 
 mod block;
+mod desk;
 mod fault;
 mod permit;
 mod run;
@@ -9,6 +10,8 @@ mod run;
 mod tests;
 
 pub use block::{Block, Marks, Out, open_fault};
+pub use desk::Desk;
 pub use fault::{Fault, Stamp, Unsolved};
 pub use permit::{Permit, Unclosed};
+pub use refusals::Numbered;
 pub use run::{Layer, Stopped};

@@ -4,7 +4,6 @@ use crate::fault::{Fault, Stamp, Unsolved};
 use crate::permit::{Permit, Unclosed};
 use crate::run::{Layer, Stopped};
 use codes::{Listed, Record};
-use packets::HeaderFault;
 use policies::First;
 use refusals::Numbered;
 use search::Report;
@@ -16,19 +15,21 @@ type Told = (u8, u64);
 
 const GRANTED: Told = (0, 0);
 
+fn refused<F: Numbered>(fault: &F) -> Told {
+    (fault.number(), fault.value())
+}
+
 fn told(answer: Result<(), Fault>) -> Told {
     match answer {
         Ok(()) => GRANTED,
-        Err(fault) => (fault.number(), fault.value()),
+        Err(fault) => refused(&fault),
     }
 }
 
 fn told_layer(layer: Layer) -> Told {
     match layer {
-        Layer::Header(HeaderFault::Length(n)) => (1, n as u64),
-        Layer::Header(HeaderFault::Block(b)) => (2, b as u64),
-        Layer::Header(HeaderFault::Number(p)) => (9, p as u64),
-        Layer::Block(fault) => (fault.number(), fault.value()),
+        Layer::Header(fault) => refused(&fault),
+        Layer::Block(fault) => refused(&fault),
     }
 }
 
@@ -57,7 +58,7 @@ fn told_solve(answer: Result<Permit, Unsolved>) -> Told {
             permit.spend();
             GRANTED
         }
-        Err(Unsolved::Refused(fault)) => (fault.number(), fault.value()),
+        Err(Unsolved::Refused(fault)) => refused(&fault),
         Err(Unsolved::NoCodeword(_)) => (13, 0),
         Err(Unsolved::Several(_, shortfall)) => (14, shortfall as u64),
     }

@@ -1,4 +1,4 @@
-// What each refusal of the program tells: the number of its cause, and the value that it returns.
+// What each refusal of the program tells: the number of its cause, and the first value that it returns.
 ghost use Rattle.std.specs.Prelude.{◌≡◌};
 ghost use Rattle.refusals.specs.Refusals.{Refusal, value_of};
 

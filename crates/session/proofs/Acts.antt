@@ -1,5 +1,5 @@
 -- Each call with its entry: what it makes of a side, from what the block's call ensures.
-use Rattle.std.proofs.Common.{◌≡◌, ℕ, Bool, true, false, List, [], ◌∷◌, Some, None, Ok, vec_items, MatchBool, Option, Result, sym, refl, ap, subst}
+use Rattle.std.proofs.Common.{◌≡◌, ℕ, Bool, true, false, List, [], ◌∷◌, is_some, Some, None, Ok, vec_items, MatchBool, MatchOption, Option, Result, sym, refl, ap, subst}
 use Rattle.packets.specs.Figure.{percent}
 use Rattle.receiver.specs.declared.fault.Fault.{Fault}
 use Rattle.receiver.specs.declared.fault.Fault.TheVariants.{NotItsPermit}
@@ -11,9 +11,9 @@ use Rattle.receiver.specs.Calls.Call.{close}
 use Rattle.receiver.specs.History.{Event, Opened}
 use Rattle.receiver.specs.History.Event.{refused, closed}
 use Rattle.receiver.specs.Stands.{Stands, GoesOn}
-use Rattle.receiver.specs.Steps.{Step, receive_event, show_event, renew_event}
-use Rattle.session.specs.Holding.{Holding}
-use Rattle.session.specs.Obeying.{Setting, Acts, Acted, Shows, copied, shown_answer, alike, in_which, or_not, ClosesOther, RefusesClose, ShownUnder, ShownIn, CloseRefused}
+use Rattle.receiver.specs.Steps.{Step, receive_event, shown_event, renew_event}
+use Rattle.receiver.specs.Holding.{Holding, ClosedUnder}
+use Rattle.session.specs.Obeying.{Setting, Acts, Acted, Shows, alike, in_which, or_not, ClosesOther, RefusesClose, ShownUnder, ShownIn, CloseRefused}
 use Rattle.session.specs.Sides.{Day, Side, side}
 use Rattle.session.specs.declared.order.Hand.{Hand}
 use Rattle.session.specs.declared.order.Hand.TheVariants.{Own, Other}
@@ -84,29 +84,32 @@ module _ {S : Type 0} (g : Setting S) where
   -- under a permit, the block's own or the other's
   shown_by : (m : Block S) (q other : Option Permit) (a : Permit) (p : ℕ) (hand : Hand) (e : Entry S) → in_which hand q other ≡ Some a → ShownUnder g.kind m a p e → Acted g m m q q other (order.Show p hand) e
   shown_by m q other a p hand e is w = record {
-    tells = λ h. show_event a p (copied g.kind.zero w.answer) (shown_answer w.answer) ∷ h;
+    tells = λ h. shown_event a p w.answer ∷ h;
     acts = λ c o h ds. subst (λ t. ActsShow t c o h ds) (sym is) (w.answer, m, w.entered, w.step, refl);
     history = w.history;
     holding = λ h. h;
   }
     where
       ActsShow : Option Permit → Bool → Option Opened → List (Event S) → List (Day S) → Type 0
-      ActsShow t c o h ds = Shows g.kind t p (side c m q o h ds) e (side c m q o (show_event a p (copied g.kind.zero w.answer) (shown_answer w.answer) ∷ h) ds)
+      ActsShow t c o h ds = Shows g.kind t p (side c m q o h ds) e (side c m q o (shown_event a p w.answer ∷ h) ds)
 
   pub shown : (m : Block S) (q other hand_held : Option Permit) (p : ℕ) (hand : Hand) (e : Entry S) → in_which hand q other ≡ hand_held → ShownIn g.kind m hand_held p e → Acted g m m q q other (order.Show p hand) e
   shown m q other (Some a) p hand e is w = shown_by m q other a p hand e is w
   shown m q other None p hand e is w = idle m q other (order.Show p hand) e (λ c o h ds. subst (λ t. Shows g.kind t p (side c m q o h ds) e (side c m q o h ds)) (sym is) (w, refl))
 
-  pub closed_own : (m m' : Block S) (q other : Option Permit) (a : Permit) → q ≡ Some a → Step g.kind m (closed a) m' → GoesOn g.kind m (closed a ∷ []) m' → Acted g m m' q None other (order.Close Own) (entry.Closed (Ok tt))
-  closed_own m m' q other a is step goes = subst (λ t. Acted g m m' t None other (order.Close Own) (entry.Closed (Ok tt))) (sym is) (record {
+  -- a close under the permit in its own hand, and where none is
+  pub closed_own : (m m' : Block S) (q other : Option Permit) → is_some q ≡ true → ClosedUnder g.kind m q m' → Acted g m m' q None other (order.Close Own) (entry.Closed (Ok tt))
+  closed_own m m' None other some done = cc
+  closed_own m m' (Some a) other some done = record {
     tells = λ h. closed a ∷ h;
-    acts = λ c o h ds. (m', refl, step, refl);
-    history = goes;
-    holding = λ h. ap (λ n. n.out) step.1;
-  })
+    acts = λ c o h ds. (m', refl, done.0, refl);
+    history = done.1;
+    holding = λ h. ap (λ n. n.out) done.0.1;
+  }
 
-  pub not_closed : (m : Block S) (q other : Option Permit) → q ≡ None → Acted g m m q None other (order.Close Own) entry.NoPermit
-  not_closed m q other is = subst (λ t. Acted g m m t None other (order.Close Own) entry.NoPermit) (sym is) (idle m None other (order.Close Own) entry.NoPermit (λ c o h ds. (refl, refl)))
+  pub not_closed : (m m' : Block S) (q other : Option Permit) → is_some q ≡ false → ClosedUnder g.kind m q m' → Acted g m m' q None other (order.Close Own) entry.NoPermit
+  not_closed m m' None other some same = subst (λ n. Acted g m n None None other (order.Close Own) entry.NoPermit) (sym same) (idle m None other (order.Close Own) entry.NoPermit (λ c o h ds. (refl, refl)))
+  not_closed m m' (Some a) other some done = cc
 
   pub no_other : (m : Block S) (q other : Option Permit) → other ≡ None → Acted g m m q q other (order.Close Other) entry.NoPermit
   no_other m q other is = subst (λ t. Acted g m m q q t (order.Close Other) entry.NoPermit) (sym is) (idle m q None (order.Close Other) entry.NoPermit (λ c o h ds. (refl, refl)))
@@ -127,3 +130,8 @@ module _ {S : Type 0} (g : Setting S) where
     history = w.history;
     holding = λ h. subst (λ n. Holding n q) (sym w.step.1) h;
   })
+
+-- an answer of packets as bytes, as `map_or` enters it
+pub entered_or_not : {S A : Type 0} (make : A → Entry S) (o : Option A) (e : Entry S) (Q : A → Type 0) → MatchOption o (e ≡ entry.NotCells) Q → ((x : A) → Q x → e ≡ make x) → e ≡ or_not make o
+entered_or_not make (Some x) e Q h k = k x h
+entered_or_not make None e Q h k = h

@@ -1,5 +1,5 @@
 -- One call on the side that it goes to: an open, a call on a block that was never opened, and any other.
-use Rattle.std.proofs.Common.{◌≡◌, ℕ, ◌+◌, Bool, true, false, cond, eqb, ltb, List, [], length, is_some, Some, None, Ok, MatchBool, Option, sym, refl, ap, ◌∙◌, subst, arith, le-ltb}
+use Rattle.std.proofs.Common.{◌≡◌, ℕ, ◌+◌, Bool, true, false, cond, eqb, ltb, List, [], length, is_some, Some, None, Ok, MatchBool, Option, sym, refl, ap, ◌∙◌, subst}
 use Rattle.std.specs.List.{AllByRecursion}
 use Rattle.symbols.specs.Kinds.{Kind}
 use Rattle.receiver.specs.declared.block.Out.TheVariants.{Nothing}
@@ -165,13 +165,3 @@ module _ {S : Type 0} (g : Setting S) (other : Option Permit) (begun begun' : Bo
   asked_opened q c is opens made =
       subst (λ t. Asked g other (side begun m t o h ds) room c e begun' m' None room') (sym is)
       (subst (λ t. Asked g other (side begun m None o h ds) room t e begun' m' None room') (sym opens) (opened_none made))
-
--- an open over a table of so many places
-pub open_granted : {S : Type 0} (K : Kind S) (b s n : ℕ) (begun : Bool) (m m' : Block S) (room room' : ℕ) (table : List S) → None ≡ open_refusal b s n → length table ≡ n → room' + n ≡ room → m' ≡ opened K b s table
-    → (open_refusal b s (length table) ≡ None → Stands K (opening b s (length table)) [] m') → OpenMade K b s n begun m room (entry.Opened (Ok tt)) true m' room'
-open_granted {S} K b s n begun m m' room room' table none long fits is stands =
-    subst (λ f. OpenMadeBy K f b s n begun m room (entry.Opened (Ok tt)) true m' room') none
-    (made (entry.Opened (Ok tt)) refl (le-ltb room n (omega arith)) (subst (λ l. Stands K (opening b s l) [] m') long (stands (ap (open_refusal b s) long ∙ sym none))))
-  where
-    made : (e : Entry S) → e ≡ entry.Opened (Ok tt) → ltb room n ≡ false → Stands K (opening b s n) [] m' → OpenMadeBy K None b s n begun m room e true m' room'
-    made e p l st = subst (λ t. MatchBool t ((e ≡ entry.NoMemory) × (true ≡ begun) × (m' ≡ m) × (room' ≡ room)) ((table : List S) × (e ≡ entry.Opened (Ok tt)) × (true ≡ true) × (length table ≡ n) × (m' ≡ opened K b s table) × (room' + n ≡ room) × Stands K (opening b s n) [] m')) (sym l) (table, p, refl, long, is, fits, st)

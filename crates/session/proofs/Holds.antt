@@ -15,7 +15,7 @@ use Rattle.packets.specs.Packets.{block_of, number_of}
 use Rattle.receiver.specs.Runs.{PacketStep, Runs, packet_cell}
 use Rattle.receiver.specs.Steps.{Step, receive_event, renew_event}
 use Rattle.receiver.proofs.Refusing.{no_cause}
-use Rattle.session.specs.Holding.{Holding}
+use Rattle.receiver.specs.Holding.{Holding}
 
 module _ {S : Type 0} (K : Kind S) where
   filled_held : (m : Block S) (p : ℕ) (x : S) (q : Option Permit) → Holding m q → Holding (filled p x m) q

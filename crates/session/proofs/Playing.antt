@@ -3,13 +3,13 @@ use Rattle.std.proofs.Common.{◌≡◌, ℕ, min, List, [], ◌∷◌, ◌++◌
 use Rattle.std.proofs.lemmas.List.{drop_all}
 use Rattle.search.specs.Found.{wiped}
 use Rattle.session.specs.Obeying.{Setting}
-use Rattle.session.specs.Sessions.{Now, On, Obeys, Plays, Good, Turned, TurnedBy, Going, Session, Unopened, beginning, desk_side}
+use Rattle.session.specs.Sessions.{Now, On, Obeys, Plays, Good, Turned, TurnedBy, Going, Session, Unopened, beginning, seat_side}
 use Rattle.session.specs.Sides.{side}
 use Rattle.session.specs.declared.order.Call.{Call}
 use Rattle.session.specs.declared.order.Entry.{Entry}
 use Rattle.session.specs.declared.order.Which.{Which}
 use Rattle.session.specs.declared.order.Which.TheVariants.{First, Second}
-use Rattle.session.specs.declared.desk.Desk.{Desk}
+use Rattle.session.specs.declared.whole.Seat.{Seat}
 use Rattle.session.specs.declared.whole.Left.{Left}
 use Rattle.session.proofs.Asks.{retired_true}
 
@@ -21,7 +21,7 @@ module _ {S : Type 0} (g : Setting S) where
   plays_more x y z (d ∷ cs) (f ∷ es) c e p on = (p.0, p.1, plays_more p.0 y z cs es c e p.2 on)
 
   -- nothing is opened yet
-  pub going_none : (room : ℕ) (x y : Desk S) → Unopened g.kind x → Unopened g.kind y → Going g room [] [] x y room
+  pub going_none : (room : ℕ) (x y : Seat S) → Unopened g.kind x → Unopened g.kind y → Going g room [] [] x y room
   going_none room x y first second = record {
     now = beginning g room;
     plays = refl;
@@ -32,17 +32,17 @@ module _ {S : Type 0} (g : Setting S) where
     good_second = record { standing = tt; holding = refl; past = tt };
   }
 
-  module _ (room : ℕ) (cs : List (Call S)) (es : List (Entry S)) (x x' y y' : Desk S) (r r' : ℕ) (c : Call S) (e : Entry S) (w : Going g room cs es x y r) where
+  module _ (room : ℕ) (cs : List (Call S)) (es : List (Entry S)) (x x' y y' : Seat S) (r r' : ℕ) (c : Call S) (e : Entry S) (w : Going g room cs es x y r) where
     on_first : c.block ≡ First → TurnedBy g First c e x x' y y' r r' → Going g room (cs ++ c ∷ []) (es ++ e ∷ []) x' y' r'
     on_first is t =
         let s = w.now in
         let a = t.0 s.first.opened s.first.history s.first.past in
-        let z = desk_side x' a.opened_with a.history a.past in
+        let z = seat_side x' a.opened_with a.history a.past in
         let n : Now S = record { first = z; second = s.second; room = r' } in
         let obeys : Obeys g s.second.held s.first s.room c.order e z r' =
         subst (λ o. Obeys g o s.first s.room c.order e z r') (sym (ap (λ k. k.held) w.second))
-        (subst (λ k. Obeys g y.held k s.room c.order e z r') (sym w.first)
-        (subst (λ k. Obeys g y.held (desk_side x s.first.opened s.first.history s.first.past) k c.order e z r') (sym w.left) a.obeys)) in
+        (subst (λ k. Obeys g y.desk.held k s.room c.order e z r') (sym w.first)
+        (subst (λ k. Obeys g y.desk.held (seat_side x s.first.opened s.first.history s.first.past) k c.order e z r') (sym w.left) a.obeys)) in
         record {
           now = n;
           plays = plays_more (beginning g room) s n cs es c e w.plays (subst (λ k. On g s k c.order e n) (sym is) (obeys, refl));
@@ -57,12 +57,12 @@ module _ {S : Type 0} (g : Setting S) where
     on_second is t =
         let s = w.now in
         let a = t.0 s.second.opened s.second.history s.second.past in
-        let z = desk_side y' a.opened_with a.history a.past in
+        let z = seat_side y' a.opened_with a.history a.past in
         let n : Now S = record { first = s.first; second = z; room = r' } in
         let obeys : Obeys g s.first.held s.second s.room c.order e z r' =
         subst (λ o. Obeys g o s.second s.room c.order e z r') (sym (ap (λ k. k.held) w.first))
-        (subst (λ k. Obeys g x.held k s.room c.order e z r') (sym w.second)
-        (subst (λ k. Obeys g x.held (desk_side y s.second.opened s.second.history s.second.past) k c.order e z r') (sym w.left) a.obeys)) in
+        (subst (λ k. Obeys g x.desk.held k s.room c.order e z r') (sym w.second)
+        (subst (λ k. Obeys g x.desk.held (seat_side y s.second.opened s.second.history s.second.past) k c.order e z r') (sym w.left) a.obeys)) in
         record {
           now = n;
           plays = plays_more (beginning g room) s n cs es c e w.plays (subst (λ k. On g s k c.order e n) (sym is) (obeys, refl));
@@ -80,7 +80,7 @@ module _ {S : Type 0} (g : Setting S) where
         go First is t = on_first is t
         go Second is t = on_second is t
 
-  module _ (c : Call S) (e : Entry S) (x x' y y' : Desk S) (r r' : ℕ) where
+  module _ (c : Call S) (e : Entry S) (x x' y y' : Seat S) (r r' : ℕ) where
     pub turned_first : c.block ≡ First → TurnedBy g First c e x x' y y' r r' → Turned g c e x x' y y' r r'
     turned_first is t = record { turned = subst (λ k. TurnedBy g k c e x x' y y' r r') (sym is) t }
 
@@ -88,7 +88,7 @@ module _ {S : Type 0} (g : Setting S) where
     turned_second is t = record { turned = subst (λ k. TurnedBy g k c e x x' y y' r r') (sym is) t }
 
   -- at the end every event of every block was true
-  pub going_ended : (room : ℕ) (cs : List (Call S)) (es : List (Entry S)) (x y : Desk S) (r : ℕ) (left : Left) → Going g room cs es x y r → left.first ≡ is_some x.held → left.second ≡ is_some y.held → Session g room cs es left
+  pub going_ended : (room : ℕ) (cs : List (Call S)) (es : List (Entry S)) (x y : Seat S) (r : ℕ) (left : Left) → Going g room cs es x y r → left.first ≡ is_some x.desk.held → left.second ≡ is_some y.desk.held → Session g room cs es left
   going_ended room cs es x y r left w first second = record {
     end = w.now;
     plays = w.plays;

@@ -1,5 +1,5 @@
 -- Solving in a session: what the block's solve ensures, as a session tells it.
-use Rattle.std.proofs.Common.{◌≡◌, ℕ, true, false, ◌||◌, ltb, List, [], ◌∷◌, length, Some, None, Ok, Err, MatchBool, Option, Result, sym, refl, ap, ◌∙◌, subst}
+use Rattle.std.proofs.Common.{◌≡◌, ℕ, true, false, ◌||◌, ltb, [], ◌∷◌, length, Some, None, Ok, Err, MatchBool, Option, Result, sym, refl, ap, ◌∙◌, subst}
 use Rattle.std.proofs.Math.Logic.{∥∥₁_elim}
 use mathlib.Core.HLevel.{⊥_prop}
 use Rattle.symbols.specs.Kinds.{Kind}
@@ -19,10 +19,9 @@ use Rattle.receiver.proofs.Refusing.{no_cause}
 use Rattle.receiver.specs.Calls.{refusal, is_out}
 use Rattle.receiver.specs.Calls.Call.{solve}
 use Rattle.receiver.specs.Blocks.{Block, seen}
-use Rattle.receiver.specs.Solves.{search_of, found_of, after_search, answer_of, solve_event, outcome, solved, solved_by, named}
-use Rattle.receiver.specs.Stands.{GoesOn}
+use Rattle.receiver.specs.Solves.{search_of, found_of, after_search, answer_of, solve_event, outcome, solved_by}
 use Rattle.receiver.specs.View.{model}
-use Rattle.session.specs.Holding.{Holding}
+use Rattle.receiver.specs.Holding.{Holding}
 use Rattle.session.specs.Naming.{named_choice}
 use Rattle.session.specs.Obeying.{permit_of, Setting, Acted, Solves, SolvesWith, FreeFor, solved_entry, hand_after}
 use Rattle.session.specs.Sides.{Side, side, Solved, PileSolved, solve_by, coded, pile_at, pile_in, code_in}
@@ -35,27 +34,6 @@ use Rattle.session.specs.declared.order.Entry.TheVariants as entry
 use Rattle.session.proofs.Acts.{idle}
 
 module _ {S : Type 0} (K : Kind S) (k : Matrix) (m : Block S) (p : Named) where
-  -- what a solve answers and leaves of the block does not go by what its memory held
-  same_answer : (o : Option Fault) (ws : List ℕ) (ss : List S) → (solved_by K named_choice k m p o ws ss).answer ≡ (solved_by K named_choice k m p o [] []).answer
-  same_answer None ws ss = refl
-  same_answer (Some f) ws ss = refl
-
-  same_block : (o : Option Fault) (ws : List ℕ) (ss : List S) → (solved_by K named_choice k m p o ws ss).block ≡ (solved_by K named_choice k m p o [] []).block
-  same_block None ws ss = refl
-  same_block (Some f) ws ss = refl
-
-  pub told_solved : (m' : Block S) (p' : Named) (r : Result Permit Unsolved) (ws ws' : List ℕ) (ss ss' : List S)
-      → record { answer = r; block = m'; policy = p'; words = ws'; sides = ss' } ≡ solved K named_choice k m p ws ss
-      → GoesOn K m (solve_event (search_of k (length ws) (length ss)) (named K named_choice k m p) r ∷ []) m'
-      → Solved K k p.name (length ws) (length ss) m r m'
-  told_solved m' p' r ws ws' ss ss' done goes =
-      let o = refusal K (seen m) (solve (search_of k (length ws) (length ss))) in
-      record {
-        answer = sym (ap (λ d. d.answer) done ∙ same_answer o ws ss);
-        block = sym (ap (λ d. d.block) done ∙ same_block o ws ss);
-        history = goes;
-      }
-
   -- a permit bears the block's numbers, and is out
   permitted : (o : Option Fault) (q : Permit) → (solved_by K named_choice k m p o [] []).answer ≡ Ok q
       → (q ≡ permit_of m q.report) × Holding (solved_by K named_choice k m p o [] []).block (Some q)

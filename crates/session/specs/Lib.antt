@@ -1,5 +1,4 @@
 pub mod Carrying
-pub mod Holding
 pub mod Naming
 pub mod NamingLaws
 pub mod Obeying

@@ -1,6 +1,6 @@
 -- What each call of a session and its entry in the log make of a block's side.
 --
---   copied, shown_answer, permit_of, answer_with, in_hand     an entry as the block's answer
+--   permit_of, answer_with, in_hand     an entry as the block's answer
 --   Moves         a call that the block answers: its step, and its event in the history
 --   Carries       packets as bytes
 --   Solves        a solve with one of the session's codes
@@ -27,9 +27,9 @@ use Rattle.receiver.specs.History.Event.{refused, closed}
 use Rattle.receiver.specs.Blocks.{Block, received_count, mark_at}
 use Rattle.receiver.specs.Solves.{search_of, solve_event}
 use Rattle.receiver.specs.Stands.{Stands, GoesOn}
-use Rattle.receiver.specs.Steps.{Step, receive_event, show_event, renew_event}
+use Rattle.receiver.specs.Steps.{Step, receive_event, shown_event, renew_event}
 use Rattle.session.specs.Carrying.{Carriage}
-use Rattle.session.specs.Holding.{Holding}
+use Rattle.receiver.specs.Holding.{Holding}
 use Rattle.session.specs.Sides.{Side, Day, side, moved, Memory, coded, solve_by}
 use Rattle.session.specs.declared.order.Hand.{Hand}
 use Rattle.session.specs.declared.order.Hand.TheVariants.{Own, Other}
@@ -37,15 +37,6 @@ use Rattle.session.specs.declared.order.Order.{Order}
 use Rattle.session.specs.declared.order.Order.TheVariants as order
 use Rattle.session.specs.declared.order.Entry.{Entry}
 use Rattle.session.specs.declared.order.Entry.TheVariants as entry
-
--- the symbol that a show copied
-abbrev pub copied : {S : Type 0} → S → Result S Fault → S
-copied z (Ok x) = x
-copied z (Err f) = z
-
-abbrev pub shown_answer : {S : Type 0} → Result S Fault → Result (Unit {0}) Fault
-shown_answer (Ok x) = Ok tt
-shown_answer (Err f) = Err f
 
 -- the permit that a report stands for, with the block's numbers
 abbrev pub permit_of : {S : Type 0} → Block S → Report → Permit
@@ -99,7 +90,7 @@ module _ {S : Type 0} (K : Kind S) where
 
   abbrev pub Shows : Option Permit → (place : ℕ) → Side S → Entry S → Side S → Type 0
   Shows None p x e z = (e ≡ entry.NoPermit) × (z ≡ x)
-  Shows (Some q) p x e z = Moves entry.Shown (λ (r : Result S Fault). show_event q p (copied K.zero r) (shown_answer r)) x e z
+  Shows (Some q) p x e z = Moves entry.Shown (λ (r : Result S Fault). shown_event q p r) x e z
 
   -- under the permit in the block's own hand, which is the block's
   abbrev pub Closes : Option Permit → Side S → Entry S → Side S → Type 0
@@ -126,8 +117,8 @@ module _ {S : Type 0} (K : Kind S) where
   pub record ShownUnder (m : Block S) (q : Permit) (p : ℕ) (e : Entry S) : Type 0 where
     pub answer : Result S Fault
     pub entered : e ≡ entry.Shown answer
-    pub step : Step K m (show_event q p (copied K.zero answer) (shown_answer answer)) m
-    pub history : GoesOn K m (show_event q p (copied K.zero answer) (shown_answer answer) ∷ []) m
+    pub step : Step K m (shown_event q p answer) m
+    pub history : GoesOn K m (shown_event q p answer ∷ []) m
 
   abbrev pub ShownIn : Block S → Option Permit → ℕ → Entry S → Type 0
   ShownIn m None p e = e ≡ entry.NoPermit

@@ -10,7 +10,7 @@
 --   Session       one entry for each call, each belonging to it, and every event of every block was true when it came
 --   Played        what a whole session answers
 --   emptied       memory after a session
---   desk_side, Same, Unopened    a desk as a side, the same desk after a call on the other, and one never opened
+--   seat_side, Same, Unopened    a seat as a side, the same seat after a call on the other, and one where no block was opened
 --   Good, Asked, Turned, Going, Cut, OpenMade    what the parts of a session do
 use Rattle.std.specs.Prelude.{◌≡◌, ℕ, ◌+◌, ◌<◌, Bool, true, false, List, [], ◌∷◌, length, replicate, is_some, Some, None, Ok, Err, MatchBool, Option, Result, ◌≢◌, nat_lt}
 use Rattle.std.specs.List.{AllByRecursion}
@@ -23,9 +23,9 @@ use Rattle.receiver.specs.Blocks.{Block, opened}
 use Rattle.receiver.specs.View.{model}
 use Rattle.receiver.specs.Stands.{Stands, opening}
 use Rattle.session.specs.Obeying.{Setting, Acts}
-use Rattle.session.specs.Holding.{Holding}
+use Rattle.receiver.specs.Holding.{Holding}
 use Rattle.session.specs.Sides.{Day, Side, side, Standing}
-use Rattle.session.specs.declared.desk.Desk.{Desk}
+use Rattle.session.specs.declared.whole.Seat.{Seat}
 use Rattle.session.specs.declared.whole.Left.{Left}
 use Rattle.session.specs.declared.whole.LogLength.{LogLength}
 use Rattle.session.specs.declared.order.Call.{Call}
@@ -131,41 +131,41 @@ module _ {S : Type 0} (g : Setting S) where
     pub obeys : Obeys other x room o e (side begun m q opened_with history past) room'
     pub good : Good x → Good (side begun m q opened_with history past)
 
--- the side of a desk, with the histories of its blocks
-abbrev pub desk_side : {S : Type 0} → Desk S → Option Opened → List (Event S) → List (Day S) → Side S
-desk_side x o h ds = side x.begun (model x.block) x.held o h ds
+-- the side of a seat, with the histories of its blocks
+abbrev pub seat_side : {S : Type 0} → Seat S → Option Opened → List (Event S) → List (Day S) → Side S
+seat_side x o h ds = side x.begun (model x.desk.block) x.desk.held o h ds
 
--- two desks with the same block, flag and permit
-pub record Same {S : Type 0} (x x' : Desk S) : Type 0 where
+-- two seats with the same block, flag and permit
+pub record Same {S : Type 0} (x x' : Seat S) : Type 0 where
   pub begun : x'.begun ≡ x.begun
-  pub block : model x'.block ≡ model x.block
-  pub held : x'.held ≡ x.held
+  pub block : model x'.desk.block ≡ model x.desk.block
+  pub held : x'.desk.held ≡ x.desk.held
 
--- a desk whose block was never opened
-pub record Unopened {S : Type 0} (K : Kind S) (x : Desk S) : Type 0 where
+-- a seat where no block was ever opened
+pub record Unopened {S : Type 0} (K : Kind S) (x : Seat S) : Type 0 where
   pub begun : x.begun ≡ false
-  pub block : model x.block ≡ opened K 0 0 []
-  pub held : x.held ≡ None
+  pub block : model x.desk.block ≡ opened K 0 0 []
+  pub held : x.desk.held ≡ None
 
 module _ {S : Type 0} (g : Setting S) where
   -- what one call does to the session: the side that it goes to moves, and the other stays
-  abbrev pub TurnedBy : Which → Call S → Entry S → (first first' second second' : Desk S) → (room room' : ℕ) → Type 0
+  abbrev pub TurnedBy : Which → Call S → Entry S → (first first' second second' : Seat S) → (room room' : ℕ) → Type 0
   TurnedBy First c e x x' y y' room room' =
-      ((o : Option Opened) (h : List (Event S)) (ds : List (Day S)) → Asked g y.held (desk_side x o h ds) room c.order e x'.begun (model x'.block) x'.held room')
+      ((o : Option Opened) (h : List (Event S)) (ds : List (Day S)) → Asked g y.desk.held (seat_side x o h ds) room c.order e x'.begun (model x'.desk.block) x'.desk.held room')
       × Same y y'
   TurnedBy Second c e x x' y y' room room' =
-      ((o : Option Opened) (h : List (Event S)) (ds : List (Day S)) → Asked g x.held (desk_side y o h ds) room c.order e y'.begun (model y'.block) y'.held room')
+      ((o : Option Opened) (h : List (Event S)) (ds : List (Day S)) → Asked g x.desk.held (seat_side y o h ds) room c.order e y'.begun (model y'.desk.block) y'.desk.held room')
       × Same x x'
 
-  pub record Turned (c : Call S) (e : Entry S) (x x' y y' : Desk S) (room room' : ℕ) : Type 0 where
+  pub record Turned (c : Call S) (e : Entry S) (x x' y y' : Seat S) (room room' : ℕ) : Type 0 where
     pub turned : TurnedBy c.block c e x x' y y' room room'
 
   -- how far a session has come
-  pub record Going (room : ℕ) (calls : List (Call S)) (log : List (Entry S)) (x y : Desk S) (room' : ℕ) : Type 0 where
+  pub record Going (room : ℕ) (calls : List (Call S)) (log : List (Entry S)) (x y : Seat S) (room' : ℕ) : Type 0 where
     pub now : Now S
     pub plays : Plays g (beginning g room) calls log now
-    pub first : now.first ≡ desk_side x now.first.opened now.first.history now.first.past
-    pub second : now.second ≡ desk_side y now.second.opened now.second.history now.second.past
+    pub first : now.first ≡ seat_side x now.first.opened now.first.history now.first.past
+    pub second : now.second ≡ seat_side y now.second.opened now.second.history now.second.past
     pub left : now.room ≡ room'
     pub good_first : Good g now.first
     pub good_second : Good g now.second

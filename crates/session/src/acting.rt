@@ -1,59 +1,43 @@
 // Making one call on an opened block, and entering its answer.
-ghost use Rattle.std.specs.Prelude.{◌≡◌, ◌≤◌, false, ◌||◌, ltb, List, length, None, Option, nat_lt};
+ghost use Rattle.std.specs.Prelude.{◌≡◌, ◌≤◌, false, ◌||◌, ltb, List, length, Some, None, Option, nat_lt};
 ghost use Rattle.std.specs.Option.{option_map};
 ghost use Rattle.piles.specs.declared.pile.Pile.{Pile};
 ghost use Rattle.receiver.specs.declared.permit.Permit.{Permit};
 ghost use Rattle.receiver.specs.Calls.{owns};
 ghost use Rattle.receiver.specs.Blocks.{seen};
 ghost use Rattle.receiver.specs.View.{model};
-ghost use Rattle.session.specs.declared.order.Hand.TheVariants.{Own, Other};
-ghost use Rattle.session.specs.Obeying.{setting, Acted, is_open, ShownUnder, ShownIn, CloseRefused, FreeFor, solved_entry, hand_after, alike as numbers_alike};
+ghost use Rattle.session.specs.declared.order.Hand.TheVariants.{Other};
+ghost use Rattle.session.specs.Obeying.{setting, Acted, is_open, ShownIn, CloseRefused, FreeFor, solved_entry, hand_after, alike as numbers_alike};
 ghost use Rattle.session.specs.Sides.{Memory, memory_of, pile_at};
 
 use crate::carried::Carried;
-use crate::desk::{Desk, put};
 use crate::order::{Entry, Hand, Order};
 use crate::solving::solve_pile;
 use piles::{Pile, PolicyName};
-use receiver::{Block, Fault, Permit, Stamp, Unclosed, Unsolved};
+use receiver::{Block, Desk, Fault, Permit, Stamp, Unclosed, Unsolved};
 
-// Not by `map_or`: a case of a generic enum handed to it is not covered by the borrow checker yet. The same of a run.
 // A packet and a run have a function each: one for both would be handed the method, the order and the case.
 fn obey_packet<S: Carried>(block: &mut Block<'_, S>, stamp: Stamp, bytes: &Vec<u8>) -> Entry<S>
     ensures { (ps : List Pile) (memory : Memory) (q other : Option Permit) → Acted (setting S.Symbol.kind S.Carried.carriage ps memory) (model block.old) (model block.new) q q other (Order.Packet stamp bytes.now) result }
 {
-    match S::take_packet(block, stamp, bytes.as_slice()) {
-        Some(answer) => Entry::Packed(answer),
-        None => Entry::NotCells,
-    }
+    S::take_packet(block, stamp, bytes.as_slice()).map_or(
+        Entry::NotCells,
+        |answer| Entry::Packed(answer),
+    )
 }
 
 fn obey_run<S: Carried>(block: &mut Block<'_, S>, stamp: Stamp, bytes: &Vec<u8>) -> Entry<S>
     ensures { (ps : List Pile) (memory : Memory) (q other : Option Permit) → Acted (setting S.Symbol.kind S.Carried.carriage ps memory) (model block.old) (model block.new) q q other (Order.Run stamp bytes.now) result }
 {
-    match S::take_run(block, stamp, bytes.as_slice()) {
-        Some(answer) => Entry::Ran(answer),
-        None => Entry::NotCells,
-    }
+    S::take_run(block, stamp, bytes.as_slice()).map_or(Entry::NotCells, |answer| Entry::Ran(answer))
 }
 
-// Shows a place under a permit. Not by `map`: the search proves arm by arm.
-fn show_under<S: Carried>(block: &Block<'_, S>, permit: &Permit, place: u32) -> Entry<S>
-    ensures { ShownUnder S.Symbol.kind (model block.now) permit.now place result }
-{
-    let mut symbol = S::zero();
-    match block.show(permit, place, &mut symbol) {
-        Ok(()) => Entry::Shown(Ok(symbol)),
-        Err(fault) => Entry::Shown(Err(fault)),
-    }
-}
-
-// Shows a place under the permit in a hand. Not by `map_or`: the search then leaves `returns` open.
+// Shows a place under the permit in a hand. Not by `map_or`: of its closure a proof knows no answer, and `returns` stays open.
 fn show_in<S: Carried>(block: &Block<'_, S>, hand: &Option<Permit>, place: u32) -> Entry<S>
     ensures { ShownIn S.Symbol.kind (model block.now) hand.now place result }
 {
     match hand {
-        Some(permit) => show_under(block, permit, place),
+        Some(permit) => Entry::Shown(block.shown(permit, place)),
         None => Entry::NoPermit,
     }
 }
@@ -99,8 +83,19 @@ fn pile_at(codes: &[Pile], code: Option<usize>) -> Option<&Pile>
     codes.get(code?)
 }
 
+// Puts a permit into an empty hand.
+fn put(hand: &mut Option<Permit>, permit: Permit)
+    requires { hand.old ≡ None }
+    ensures { hand.new ≡ Some permit }
+{
+    match hand.replace(permit) {
+        None => {}
+        Some(_old) => unreachable(),
+    }
+}
+
 // The entry of a solve; a permit that it gave is put in the hand, where none was.
-// Not by `map`: with the put in a closure the search leaves the clause of the hand open.
+// Not by `map`, which does not say that its closure was not called at a refusal: the clause of the hand stays open.
 fn solved<S: Carried>(hand: &mut Option<Permit>, answer: Result<Permit, Unsolved>) -> Entry<S>
     requires { FreeFor hand.old answer }
     ensures entry { result ≡ solved_entry answer }
@@ -116,113 +111,114 @@ fn solved<S: Carried>(hand: &mut Option<Permit>, answer: Result<Permit, Unsolved
     }
 }
 
-impl<'a, S: Carried> Desk<'a, S> {
-    fn obey_show(&self, other: &Option<Permit>, place: u32, hand: Hand) -> Entry<S>
-        ensures { (ps : List Pile) (memory : Memory) → Acted (setting S.Symbol.kind S.Carried.carriage ps memory) (model self.now.block) (model self.now.block) self.now.held self.now.held other.now (Order.Show place hand) result }
-    {
-        let under = match hand {
-            Hand::Own => &self.held,
-            Hand::Other => other,
-        };
-        show_in(&self.block, under, place)
-    }
+fn obey_show<S: Carried>(
+    desk: &Desk<'_, S>,
+    other: &Option<Permit>,
+    place: u32,
+    hand: Hand,
+) -> Entry<S>
+    ensures { (ps : List Pile) (memory : Memory) → Acted (setting S.Symbol.kind S.Carried.carriage ps memory) (model desk.now.block) (model desk.now.block) desk.now.held desk.now.held other.now (Order.Show place hand) result }
+{
+    let under = match hand {
+        Hand::Own => &desk.held,
+        Hand::Other => other,
+    };
+    show_in(&desk.block, under, place)
+}
 
-    // Closes the block under the permit in its own hand.
-    fn obey_close(&mut self) -> Entry<S>
-        ensures acted { (ps : List Pile) (memory : Memory) (other : Option Permit) → Acted (setting S.Symbol.kind S.Carried.carriage ps memory) (model self.old.block) (model self.new.block) self.old.held self.new.held other (Order.Close Own) result }
-        ensures begun { self.new.begun ≡ self.old.begun }
-    {
-        let Some(permit) = self.held.take() else {
-            return Entry::NoPermit;
-        };
-        match self.block.close(permit) {
-            Ok(()) => Entry::Closed(Ok(())),
-            Err(_kept) => unreachable(),
-        }
+fn obey_close_other<S: Carried>(desk: &mut Desk<'_, S>, other: &mut Option<Permit>) -> Entry<S>
+    ensures acted { (ps : List Pile) (memory : Memory) → Acted (setting S.Symbol.kind S.Carried.carriage ps memory) (model desk.old.block) (model desk.new.block) desk.old.held desk.new.held other.old (Order.Close Other) result }
+    ensures other { other.new ≡ other.old }
+{
+    let Some(permit) = other.take() else {
+        return Entry::NoPermit;
+    };
+    if alike(&desk.held, &permit) {
+        put(other, permit);
+        return Entry::OtherBlocks;
     }
+    let (entry, back) = close_under(&mut desk.block, permit);
+    put(other, back);
+    entry
+}
 
-    fn obey_close_other(&mut self, other: &mut Option<Permit>) -> Entry<S>
-        ensures acted { (ps : List Pile) (memory : Memory) → Acted (setting S.Symbol.kind S.Carried.carriage ps memory) (model self.old.block) (model self.new.block) self.old.held self.new.held other.old (Order.Close Other) result }
-        ensures begun { self.new.begun ≡ self.old.begun }
-        ensures other { other.new ≡ other.old }
-    {
-        let Some(permit) = other.take() else {
-            return Entry::NoPermit;
-        };
-        if alike(&self.held, &permit) {
-            put(other, permit);
-            return Entry::OtherBlocks;
-        }
-        let (entry, back) = close_under(&mut self.block, permit);
-        put(other, back);
-        entry
+// Solves; the permit in hand afterwards is the one given, or the one before.
+fn obey_solve<S: Carried>(
+    desk: &mut Desk<'_, S>,
+    codes: &[Pile],
+    words: &mut [u64],
+    sides: &mut [S],
+    code: Option<usize>,
+    policy: PolicyName,
+    asked_words: usize,
+    symbols: usize,
+) -> Entry<S>
+    ensures { (other : Option Permit) → Acted (setting S.Symbol.kind S.Carried.carriage codes.now (memory_of words.old sides.old)) (model desk.old.block) (model desk.new.block) desk.old.held desk.new.held other (Order.Solve code policy asked_words symbols) result }
+{
+    if short(words, sides, asked_words, symbols) {
+        return Entry::NoMemory;
     }
-
-    // Solves; the permit in hand afterwards is the one given, or the one before.
-    fn obey_solve(
-        &mut self,
-        codes: &[Pile],
-        words: &mut [u64],
-        sides: &mut [S],
-        code: Option<usize>,
-        policy: PolicyName,
-        asked_words: usize,
-        symbols: usize,
-    ) -> Entry<S>
-        ensures acted { (other : Option Permit) → Acted (setting S.Symbol.kind S.Carried.carriage codes.now (memory_of words.old sides.old)) (model self.old.block) (model self.new.block) self.old.held self.new.held other (Order.Solve code policy asked_words symbols) result }
-        ensures begun { self.new.begun ≡ self.old.begun }
-    {
-        if short(words, sides, asked_words, symbols) {
-            return Entry::NoMemory;
-        }
-        let Some(pile) = pile_at(codes, code) else {
-            return Entry::NoCode;
-        };
-        let words = front(words, asked_words);
-        let sides = front(sides, symbols);
-        match solve_pile(&mut self.block, pile, policy, words, sides) {
-            Ok(answer) => solved(&mut self.held, answer),
-            Err(_none) => Entry::NoCode,
-        }
+    let Some(pile) = pile_at(codes, code) else {
+        return Entry::NoCode;
+    };
+    let words = front(words, asked_words);
+    let sides = front(sides, symbols);
+    match solve_pile(&mut desk.block, pile, policy, words, sides) {
+        Ok(answer) => solved(&mut desk.held, answer),
+        Err(_none) => Entry::NoCode,
     }
+}
 
-    // Makes a call on an opened block.
-    // The codes and the memory stay apart: a slice that is lent keeps its length, and a struct of them would have each
-    // contract say so.
-    pub(crate) fn obey(
-        &mut self,
-        other: &mut Option<Permit>,
-        codes: &[Pile],
-        words: &mut [u64],
-        sides: &mut [S],
-        order: &Order<S>,
-    ) -> Entry<S>
-        ensures acted { is_open order.now ≡ false → Acted (setting S.Symbol.kind S.Carried.carriage codes.now (memory_of words.old sides.old)) (model self.old.block) (model self.new.block) self.old.held self.new.held other.old order.now result }
-        ensures begun { self.new.begun ≡ self.old.begun }
-        ensures other { other.new ≡ other.old }
-    {
-        match order {
-            Order::Open { .. } => Entry::NoBlock,
-            Order::Receive {
-                number,
-                stamp,
-                place,
-                symbol,
-            } => Entry::Received(self.block.receive(*number, *stamp, *place, *symbol)),
-            Order::Packet { stamp, bytes } => obey_packet(&mut self.block, *stamp, bytes),
-            Order::Run { stamp, bytes } => obey_run(&mut self.block, *stamp, bytes),
-            Order::Renew { stamp } => Entry::Renewed(self.block.renew(*stamp)),
-            Order::Figure => Entry::Figured(self.block.figure()),
-            Order::Mark { place } => Entry::Marked(self.block.mark(*place)),
-            Order::Solve {
-                code,
-                policy,
-                words: asked_words,
-                symbols,
-            } => self.obey_solve(codes, words, sides, *code, *policy, *asked_words, *symbols),
-            Order::Show { place, hand } => self.obey_show(other, *place, *hand),
-            Order::Close { hand: Hand::Own } => self.obey_close(),
-            Order::Close { hand: Hand::Other } => self.obey_close_other(other),
+// Makes a call on an opened block.
+// The codes and the memory stay apart: a slice that is lent keeps its length, and a struct of them would have each
+// contract say so.
+pub(crate) fn obey<S: Carried>(
+    desk: &mut Desk<'_, S>,
+    other: &mut Option<Permit>,
+    codes: &[Pile],
+    words: &mut [u64],
+    sides: &mut [S],
+    order: &Order<S>,
+) -> Entry<S>
+    ensures acted { is_open order.now ≡ false → Acted (setting S.Symbol.kind S.Carried.carriage codes.now (memory_of words.old sides.old)) (model desk.old.block) (model desk.new.block) desk.old.held desk.new.held other.old order.now result }
+    ensures other { other.new ≡ other.old }
+{
+    match order {
+        Order::Open { .. } => Entry::NoBlock,
+        Order::Receive {
+            number,
+            stamp,
+            place,
+            symbol,
+        } => Entry::Received(desk.block.receive(*number, *stamp, *place, *symbol)),
+        Order::Packet { stamp, bytes } => obey_packet(&mut desk.block, *stamp, bytes),
+        Order::Run { stamp, bytes } => obey_run(&mut desk.block, *stamp, bytes),
+        Order::Renew { stamp } => Entry::Renewed(desk.block.renew(*stamp)),
+        Order::Figure => Entry::Figured(desk.block.figure()),
+        Order::Mark { place } => Entry::Marked(desk.block.mark(*place)),
+        Order::Solve {
+            code,
+            policy,
+            words: asked_words,
+            symbols,
+        } => obey_solve(
+            desk,
+            codes,
+            words,
+            sides,
+            *code,
+            *policy,
+            *asked_words,
+            *symbols,
+        ),
+        Order::Show { place, hand } => obey_show(desk, other, *place, *hand),
+        Order::Close { hand: Hand::Own } => {
+            if desk.close() {
+                Entry::Closed(Ok(()))
+            } else {
+                Entry::NoPermit
+            }
         }
+        Order::Close { hand: Hand::Other } => obey_close_other(desk, other),
     }
 }

@@ -5,7 +5,7 @@ ghost use Rattle.receiver.specs.History.{Event, Opened};
 ghost use Rattle.receiver.specs.Stands.{Stands};
 ghost use Rattle.receiver.specs.View.{model};
 ghost use Rattle.session.specs.Carrying.{Carriage, cells, no_cells};
-ghost use Rattle.session.specs.Holding.{Holding};
+ghost use Rattle.receiver.specs.Holding.{Holding};
 
 use receiver::{Block, Layer, Stamp, Stopped};
 use symbols::{Bit, Cell, Dated, Symbol, Word};
@@ -55,12 +55,20 @@ impl Carried for Cell {
     }
 }
 
-// Three impls alike: a body in the trait would be proved for any carriage, and taking nothing does not keep to that of cells.
-impl Carried for Bit {
+// Symbols that are no cells.
+pub trait NoCells: Symbol {}
+
+impl NoCells for Bit {}
+
+impl NoCells for Word {}
+
+impl NoCells for Dated {}
+
+impl<S: NoCells> Carried for S {
     ghost carriage = { no_cells };
 
     fn take_packet(
-        block: &mut Block<'_, Bit>,
+        block: &mut Block<'_, S>,
         stamp: Stamp,
         bytes: &[u8],
     ) -> Option<Result<(), Layer>> {
@@ -68,47 +76,7 @@ impl Carried for Bit {
     }
 
     fn take_run(
-        block: &mut Block<'_, Bit>,
-        stamp: Stamp,
-        bytes: &[u8],
-    ) -> Option<Result<usize, Stopped>> {
-        None
-    }
-}
-
-impl Carried for Word {
-    ghost carriage = { no_cells };
-
-    fn take_packet(
-        block: &mut Block<'_, Word>,
-        stamp: Stamp,
-        bytes: &[u8],
-    ) -> Option<Result<(), Layer>> {
-        None
-    }
-
-    fn take_run(
-        block: &mut Block<'_, Word>,
-        stamp: Stamp,
-        bytes: &[u8],
-    ) -> Option<Result<usize, Stopped>> {
-        None
-    }
-}
-
-impl Carried for Dated {
-    ghost carriage = { no_cells };
-
-    fn take_packet(
-        block: &mut Block<'_, Dated>,
-        stamp: Stamp,
-        bytes: &[u8],
-    ) -> Option<Result<(), Layer>> {
-        None
-    }
-
-    fn take_run(
-        block: &mut Block<'_, Dated>,
+        block: &mut Block<'_, S>,
         stamp: Stamp,
         bytes: &[u8],
     ) -> Option<Result<usize, Stopped>> {

@@ -3,7 +3,6 @@
 
 mod acting;
 mod carried;
-mod desk;
 mod named;
 mod order;
 mod solving;

@@ -6,7 +6,7 @@ use codes::Code;
 use piles::PolicyName;
 use policies::{Columns, Component, First, Heaviest, Policy};
 
-#[derive(Clone, Copy)]
+#[derive(Clone, Copy, PartialEq, Eq, Debug)]
 pub struct Named {
     pub name: PolicyName,
 }

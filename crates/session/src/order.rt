@@ -10,7 +10,7 @@ pub enum Hand {
     Other,
 }
 
-#[derive(Drop)]
+#[derive(Drop, PartialEq, Eq, Debug)]
 pub enum Order<S> {
     Open {
         number: u32,
@@ -88,7 +88,7 @@ pub enum Which {
     Second,
 }
 
-#[derive(Drop)]
+#[derive(Drop, PartialEq, Eq, Debug)]
 pub struct Call<S> {
     pub block: Which,
     pub order: Order<S>,

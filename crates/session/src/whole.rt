@@ -1,5 +1,5 @@
 // A whole session: one call after another on two blocks.
-ghost use Rattle.std.specs.Prelude.{◌≡◌, List, [], length, None, replicate, is_some, Option};
+ghost use Rattle.std.specs.Prelude.{◌≡◌, List, [], length, None, replicate, Option};
 ghost use Rattle.std.specs.Option.{option_map};
 ghost use Rattle.receiver.specs.History.{Event, Opened};
 ghost use Rattle.receiver.specs.View.{model};
@@ -7,11 +7,11 @@ ghost use Rattle.session.specs.Obeying.{setting};
 ghost use Rattle.session.specs.Sessions.{Asked, Cut, OpenMade, Played, Session, Turned, Unopened, emptied};
 ghost use Rattle.session.specs.Sides.{Day, memory_of, side};
 
+use crate::acting::obey;
 use crate::carried::Carried;
-use crate::desk::Desk;
 use crate::order::{Call, Entry, Order, Which};
 use piles::Pile;
-use receiver::{Block, Permit, Stamp, open_fault};
+use receiver::{Block, Desk, Permit, Stamp, open_fault};
 use symbols::Symbol;
 
 // Whether each block's permit was left in its hand at the end of a session: two facts told to the caller.
@@ -25,22 +25,24 @@ pub struct Left {
 #[derive(Clone, Copy, PartialEq, Eq, Debug)]
 pub struct LogLength(pub usize);
 
+// One of the two desks of a session, and whether a block was ever opened on it. Not an Option<Desk>: a desk is not Drop,
+// since its permit is not, so nothing may be assigned over one, and the borrow checker does not cover `replace` of it (a
+// type argument holds a `&mut` and a ghost field).
+pub(crate) struct Seat<'a, S> {
+    desk: Desk<'a, S>,
+    begun: bool,
+}
+
 // Cuts a table of n places off the session's tables, or none where fewer are left.
 fn cut<'a, S>(tables: &mut &'a mut [S], n: usize) -> Option<&'a mut [S]>
     ensures { Cut n (length tables.old.now) (option_map (λ t. length t.now) result) (length tables.new.now) }
 {
-    let all = std::mem::replace(tables, &mut []);
-    if n > all.len() {
-        *tables = all;
-        return None;
-    }
-    let (table, rest) = all.split_at_mut(n);
-    *tables = rest;
-    Some(table)
+    tables.split_off_mut(..n)
 }
 
-impl<'a, S: Carried> Desk<'a, S> {
-    // Opens a block where one was, over a table of its own; the hand is empty.
+impl<'a, S: Carried> Seat<'a, S> {
+    // Opens a block where one was, over a table of its own; the hand is empty. Where the open is refused, the table has no
+    // place.
     fn open_anew(
         &mut self,
         tables: &mut &'a mut [S],
@@ -48,25 +50,17 @@ impl<'a, S: Carried> Desk<'a, S> {
         stamp: Stamp,
         places: usize,
     ) -> Entry<S>
-        requires { self.old.held ≡ None }
-        ensures made { OpenMade S.Symbol.kind number stamp places self.old.begun (model self.old.block) (length tables.old.now) result self.new.begun (model self.new.block) (length tables.new.now) }
-        ensures held { self.new.held ≡ None }
+        requires { self.old.desk.held ≡ None }
+        ensures made { OpenMade S.Symbol.kind number stamp places self.old.begun (model self.old.desk.block) (length tables.old.now) result self.new.begun (model self.new.desk.block) (length tables.new.now) }
+        ensures held { self.new.desk.held ≡ None }
     {
-        match open_fault(number, stamp, places) {
-            Some(fault) => {
-                self.block = Block::open(number, stamp, &mut []);
-                self.begun = true;
-                Entry::Opened(Err(fault))
-            }
-            None => match cut(tables, places) {
-                Some(table) => {
-                    self.block = Block::open(number, stamp, table);
-                    self.begun = true;
-                    Entry::Opened(Ok(()))
-                }
-                None => Entry::NoMemory,
-            },
-        }
+        let opened = open_fault(number, stamp, places);
+        let Some(table) = cut(tables, opened.map_or(0, |()| places)) else {
+            return Entry::NoMemory;
+        };
+        self.desk.block = Block::open(number, stamp, table);
+        self.begun = true;
+        Entry::Opened(opened)
     }
 
     // One call on the side that it goes to.
@@ -79,7 +73,7 @@ impl<'a, S: Carried> Desk<'a, S> {
         sides: &mut [S],
         order: &Order<S>,
     ) -> Entry<S>
-        ensures asked { (o : Option Opened) (h : List (Event S)) (ds : List (Day S)) → Asked (setting S.Symbol.kind S.Carried.carriage codes.now (memory_of words.old sides.old)) other.old (side self.old.begun (model self.old.block) self.old.held o h ds) (length tables.old.now) order.now result self.new.begun (model self.new.block) self.new.held (length tables.new.now) }
+        ensures asked { (o : Option Opened) (h : List (Event S)) (ds : List (Day S)) → Asked (setting S.Symbol.kind S.Carried.carriage codes.now (memory_of words.old sides.old)) other.old (side self.old.begun (model self.old.desk.block) self.old.desk.held o h ds) (length tables.old.now) order.now result self.new.begun (model self.new.desk.block) self.new.desk.held (length tables.new.now) }
         ensures other { other.new ≡ other.old }
     {
         if let Order::Open {
@@ -88,7 +82,7 @@ impl<'a, S: Carried> Desk<'a, S> {
             places,
         } = order
         {
-            return match self.held {
+            return match self.desk.held {
                 Some(_) => Entry::PermitInHand,
                 None => self.open_anew(tables, *number, *stamp, *places),
             };
@@ -96,21 +90,7 @@ impl<'a, S: Carried> Desk<'a, S> {
         if !self.begun {
             return Entry::NoBlock;
         }
-        self.obey(other, codes, words, sides, order)
-    }
-
-    // Closes the block where a permit is left in its hand, and tells whether one was.
-    fn end(&mut self) -> bool
-        ensures told { result ≡ is_some self.old.held }
-        ensures held { self.new.held ≡ None }
-    {
-        let Some(permit) = self.held.take() else {
-            return false;
-        };
-        match self.block.close(permit) {
-            Ok(()) => true,
-            Err(_kept) => unreachable(),
-        }
+        obey(&mut self.desk, other, codes, words, sides, order)
     }
 }
 
@@ -126,8 +106,8 @@ fn let_go(hand: Option<Permit>)
 
 // One call on the block that it goes to.
 fn turn<'a, S: Carried>(
-    first: &mut Desk<'a, S>,
-    second: &mut Desk<'a, S>,
+    first: &mut Seat<'a, S>,
+    second: &mut Seat<'a, S>,
     tables: &mut &'a mut [S],
     codes: &[Pile],
     words: &mut [u64],
@@ -138,15 +118,21 @@ fn turn<'a, S: Carried>(
 {
     let order = &call.order;
     match call.block {
-        Which::First => first.ask(&mut second.held, tables, codes, words, sides, order),
-        Which::Second => second.ask(&mut first.held, tables, codes, words, sides, order),
+        Which::First => {
+            let other = &mut second.desk;
+            first.ask(&mut other.held, tables, codes, words, sides, order)
+        }
+        Which::Second => {
+            let other = &mut first.desk;
+            second.ask(&mut other.held, tables, codes, words, sides, order)
+        }
     }
 }
 
 // Makes the calls one after another, and closes the blocks whose permits are left in hand.
 fn serve<'a, S: Carried>(
-    first: &mut Desk<'a, S>,
-    second: &mut Desk<'a, S>,
+    first: &mut Seat<'a, S>,
+    second: &mut Seat<'a, S>,
     mut tables: &'a mut [S],
     codes: &[Pile],
     calls: &[Call<S>],
@@ -158,16 +144,16 @@ fn serve<'a, S: Carried>(
     requires second { Unopened S.Symbol.kind second.old }
     requires long { length log.old ≡ length calls.now }
     ensures session { Session (setting S.Symbol.kind S.Carried.carriage codes.now (memory_of words.old sides.old)) (length tables.old) calls.now log.new result }
-    ensures first { first.new.held ≡ None }
-    ensures second { second.new.held ≡ None }
+    ensures first { first.new.desk.held ≡ None }
+    ensures second { second.new.desk.held ≡ None }
 {
     // Not zip with `log.iter_mut()`: of what it lent the proof then knows the length, and no element.
     for (i, call) in calls.iter().enumerate() {
         log[i] = turn(first, second, &mut tables, codes, words, sides, call);
     }
     Left {
-        first: first.end(),
-        second: second.end(),
+        first: first.desk.close(),
+        second: second.desk.close(),
     }
 }
 
@@ -205,15 +191,17 @@ fn empty<S: Symbol>(symbols: &mut [S])
     search::wipe(symbols, n);
 }
 
-// A desk whose block was never opened, over a table of no places.
-fn unopened<S: Carried>(none: &mut [S]) -> Desk<'_, S>
+// A seat where no block was ever opened, over a table of no places.
+fn unopened<S: Carried>(none: &mut [S]) -> Seat<'_, S>
     requires { none.old ≡ [] }
     ensures { Unopened S.Symbol.kind result }
 {
-    Desk {
-        block: Block::open(0, 0, none),
+    Seat {
+        desk: Desk {
+            block: Block::open(0, 0, none),
+            held: None,
+        },
         begun: false,
-        held: None,
     }
 }
 
@@ -242,16 +230,14 @@ fn open_and_serve<S: Carried>(
         log,
     );
     // Twice: a function may not take by value a struct that holds both a `&mut` and a ghost field.
-    let Desk {
-        block: _,
+    let Seat {
+        desk: Desk { block: _, held },
         begun: _,
-        held,
     } = first;
     let_go(held);
-    let Desk {
-        block: _,
+    let Seat {
+        desk: Desk { block: _, held },
         begun: _,
-        held,
     } = second;
     let_go(held);
     left

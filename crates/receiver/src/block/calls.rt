@@ -4,7 +4,7 @@ ghost use Rattle.std.specs.Prelude.{◌≡◌, false, [], ◌∷◌, length, is_
 ghost use Rattle.receiver.specs.Calls.{open_refusal};
 ghost use Rattle.packets.specs.Figure.{percent};
 ghost use Rattle.receiver.specs.Blocks.{opened, told_refusal, received_count, mark_at};
-ghost use Rattle.receiver.specs.Steps.{Step, receive_event, show_event, close_event, renew_event};
+ghost use Rattle.receiver.specs.Steps.{Step, receive_event, show_event, shown_event, close_event, renew_event};
 ghost use Rattle.receiver.specs.Stands.{Stands, GoesOn, opening};
 ghost use Rattle.receiver.specs.View.{model};
 
@@ -24,7 +24,7 @@ impl<'a, S: Symbol> Block<'a, S> {
         ensures history { open_refusal number stamp (length table.old) ≡ None → Stands S.Symbol.kind (opening number stamp (length table.old)) [] (model result) }
     {
         let n = table.len();
-        if let Some(fault) = open_fault(number, stamp, n) {
+        if let Err(fault) = open_fault(number, stamp, n) {
             return Block {
                 table,
                 marks: blank(0, 0, Some((fault.number(), fault.value()))),
@@ -79,15 +79,23 @@ impl<'a, S: Symbol> Block<'a, S> {
         ensures kept { is_ok result ≡ false → into.new ≡ into.old }
         ensures history { GoesOn S.Symbol.kind (model self.now) (show_event permit.now place into.new result ∷ []) (model self.now) }
     {
+        *into = self.shown(permit, place)?;
+        Ok(())
+    }
+
+    // The packet of a place, under a permit.
+    pub fn shown(&self, permit: &Permit, place: u32) -> Result<S, Fault>
+        ensures step { Step S.Symbol.kind (model self.now) (shown_event permit.now place result) (model self.now) }
+        ensures history { GoesOn S.Symbol.kind (model self.now) (shown_event permit.now place result ∷ []) (model self.now) }
+    {
         if !self.owns(permit) {
             return Err(Fault::NotItsPermit(self.marks.stamp));
         }
         let table = &self.table[..self.marks.n];
-        let Some(symbol) = table.get(place as usize) else {
-            return Err(Fault::NoPlace(place));
-        };
-        *into = *symbol;
-        Ok(())
+        table
+            .get(place as usize)
+            .copied()
+            .ok_or(Fault::NoPlace(place))
     }
 
     // Takes the permit back and makes every missing place zero. Refused, it gives the permit back.

@@ -30,14 +30,11 @@ impl<'a> Block<'a, Cell> {
         ensures step { Runs stamp (model self.old) (packets_in bytes.now) 0 0 result (model self.new) }
         ensures history { RunGoesOn stamp (model self.old) (packets_in bytes.now) result (model self.new) }
     {
-        let mut taken = 0;
-        for packet in bytes.chunks(PACKET) {
-            if let Err(fault) = self.packet(stamp, packet) {
-                let at = taken * PACKET;
-                return Err(Stopped { at, fault });
-            }
-            taken += 1;
+        for (taken, packet) in bytes.chunks(PACKET).enumerate() {
+            let at = taken * PACKET;
+            self.packet(stamp, packet)
+                .map_err(|fault| Stopped { at, fault })?;
         }
-        Ok(taken)
+        Ok(bytes.chunks(PACKET).len())
     }
 }

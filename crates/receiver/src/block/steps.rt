@@ -1,7 +1,8 @@
 // The steps that the calls on a block are made of, and what refuses an open.
-ghost use Rattle.std.specs.Prelude.{◌≡◌, ℕ, ◌≤◌, length, take};
+ghost use Rattle.std.specs.Prelude.{◌≡◌, ◌≤◌, take};
+ghost use Rattle.std.specs.Result.{result_err};
 ghost use Rattle.receiver.specs.Calls.{is_out, owns as own, open_refusal};
-ghost use Rattle.receiver.specs.Blocks.{fill_missing as missing_filled, seen, zero_missing, renewed_block, received_count};
+ghost use Rattle.receiver.specs.Blocks.{seen, zero_missing, renewed_block, received_count};
 ghost use Rattle.receiver.specs.View.{model, Blank};
 
 use crate::block::{Block, Marks, Out};
@@ -18,7 +19,7 @@ impl Out {
 }
 
 impl<'a, S: Symbol> Block<'a, S> {
-    // Whether the permit is the block's.
+    // Whether the permit is the block's, by its two numbers: its report says nothing of whose it is.
     pub(crate) fn owns(&self, permit: &Permit) -> bool
         ensures { result ≡ own (seen (model self.now)) permit.now }
     {
@@ -44,7 +45,13 @@ impl<'a, S: Symbol> Block<'a, S> {
         ensures table { self.new.table.now ≡ zero_missing S.Symbol.kind.zero (take self.old.marks.n self.old.marks.received) self.old.table.now }
     {
         let marks = &self.marks;
-        fill_missing(self.table, &marks.received[..marks.n], |_| S::zero());
+        let table = &mut *self.table;
+        // By place, since after a `zip` over `iter_mut` a proof knows no element.
+        for (c, got) in marks.received[..marks.n].iter().enumerate() {
+            if !*got {
+                table[c] = S::zero();
+            }
+        }
     }
 
     // Makes every place zero and missing, under a stamp.
@@ -55,23 +62,6 @@ impl<'a, S: Symbol> Block<'a, S> {
         self.marks.stamp = stamp;
         self.marks.received = [false; 512];
         self.clear_missing();
-    }
-}
-
-// Fills each place that was not received, by its number.
-pub(crate) fn fill_missing<S: Symbol, F: Fn(usize) -> S>(
-    table: &mut [S],
-    received: &[bool],
-    symbol: F,
-)
-    requires fits { length received.now ≤ length table.old }
-    requires callable { F.IsAlwaysCallable symbol }
-    ensures { (f : ℕ → S) → ((c : ℕ) (x : S) → F.post symbol c x → x ≡ f c) → table.new ≡ missing_filled f received.now table.old }
-{
-    for (c, got) in received.iter().enumerate() {
-        if !*got {
-            table[c] = symbol(c);
-        }
     }
 }
 
@@ -94,18 +84,18 @@ pub(crate) fn blank(number: u32, n: usize, refused: Option<(u8, u64)>) -> Marks
     }
 }
 
-// Why an open is refused, if it is.
-pub fn open_fault(number: u32, stamp: Stamp, places: usize) -> Option<Fault>
-    ensures { result ≡ open_refusal number stamp places }
+// Whether an open is granted, or why it is refused.
+pub fn open_fault(number: u32, stamp: Stamp, places: usize) -> Result<(), Fault>
+    ensures { result_err result ≡ open_refusal number stamp places }
 {
     if number > LAST_BLOCK {
-        return Some(Fault::BlockNumber(number));
+        return Err(Fault::BlockNumber(number));
     }
     if stamp == 0 {
-        return Some(Fault::NoStamp);
+        return Err(Fault::NoStamp);
     }
     if places == 0 || places > MOST_PLACES {
-        return Some(Fault::TableLength(places));
+        return Err(Fault::TableLength(places));
     }
-    None
+    Ok(())
 }

@@ -1,11 +1,15 @@
-use Rattle.std.proofs.Common.{Some, None}
-use Rattle.session.proofs.Acts.{packed}
+use Rattle.std.proofs.Common.{◌≡◌, refl, sym, subst, rules, tests}
+use Rattle.receiver.specs.View.{model}
+use Rattle.session.specs.Obeying.{setting, Acted, or_not}
+use Rattle.session.specs.declared.order.Order.TheVariants.{Packet}
+use Rattle.session.specs.declared.order.Entry.{Entry}
+use Rattle.session.specs.declared.order.Entry.TheVariants.{Packed}
+use Rattle.session.proofs.Acts.{packed, entered_or_not}
 use Rattle.session.proofs.acting.obey_packet.Goals as goal
 
-pub returns-in-Some : goal.returns-in-Some
-returns-in-Some g c ps memory q other =
-    packed _ _ _ _ _ _ _ (Some c.in-Some.answer) q other c.as_slice.ensures.value c.in-Some.is c.take_packet.ensures.does c.take_packet.ensures.history c.take_packet.ensures.holding
-
-pub returns-in-None : goal.returns-in-None
-returns-in-None g c ps memory q other =
-    packed _ _ _ _ _ _ _ None q other c.as_slice.ensures.value c.in-None.is c.take_packet.ensures.does c.take_packet.ensures.history c.take_packet.ensures.holding
+pub returns : goal.returns
+returns g c ps memory q other =
+    let t = c.take_packet in
+    let is : c.map_or.result ≡ or_not Packed t.result = entered_or_not Packed t.result c.map_or.result _ c.map_or.ensures (λ x k. search (rules, tests)) in
+    subst (λ (e : Entry _). Acted (setting g.S.Symbol.kind g.S.Carried.carriage ps memory) (model c.args.block.now) (model t.new.block) q q other (Packet c.args.stamp c.args.bytes.now) e) (sym is)
+    (packed _ _ _ _ _ _ _ t.result q other c.as_slice.ensures.value refl t.ensures.does t.ensures.history t.ensures.holding)

@@ -41,8 +41,8 @@ returns-clause-session g c =
     let calls = c.args.calls.now in
     let G = setting g.S.Symbol.kind g.S.Carried.carriage c.args.codes.now (memory_of c.args.words.now c.args.sides.now) in
     let room = length c.args.tables.now in
-    let left : Left = record { first = c.end.result; second = c.end-2.result } in
+    let left : Left = record { first = c.close.result; second = c.close-2.result } in
     let made : take i calls ≡ calls = take_all i calls c.loop-i-test.false in
     let log : take i c.loop-i.log ≡ c.loop-i.log = take_all i c.loop-i.log (omega (arith, c.loop-i.auto.log, c.requires.long, c.loop-i-test.false)) in
     subst (λ cs. Session G room cs c.loop-i.log left) made (subst (λ es. Session G room (take i calls) es left) log
-    (going_ended G room (take i calls) (take i c.loop-i.log) _ _ _ left inv c.end.ensures.told c.end-2.ensures.told))
+    (going_ended G room (take i calls) (take i c.loop-i.log) _ _ _ left inv c.close.ensures.told c.close-2.ensures.told))

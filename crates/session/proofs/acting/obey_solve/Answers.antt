@@ -5,33 +5,33 @@ use Rattle.piles.specs.Piles.{pile_code}
 use Rattle.session.specs.Obeying.{setting}
 use Rattle.session.specs.Sides.{PileSolved, memory_of}
 use Rattle.session.proofs.Solves.{too_little, without_pile, free_for, solved_so, with_no_code}
-use Rattle.session.proofs.desk.Desk.obey_solve.Goals as goal
+use Rattle.session.proofs.acting.obey_solve.Goals as goal
 
-pub returns-then-short-clause-acted : goal.returns-then-short-clause-acted
-returns-then-short-clause-acted g c other = too_little _ _ _ _ _ _ _ other c.if-short.ensures
+pub returns-then-short : goal.returns-then-short
+returns-then-short g c other = too_little _ _ _ _ _ _ _ other c.if-short.ensures
 
-pub returns-in_default-clause-acted : goal.returns-in_default-clause-acted
-returns-in_default-clause-acted g c other = without_pile _ _ _ _ _ _ _ _ other c.if-short.ensures (sym c.in_default.ensures) refl
+pub returns-in_default : goal.returns-in_default
+returns-in_default g c other = without_pile _ _ _ _ _ _ _ _ other c.if-short.ensures (sym c.in_default.ensures) refl
 
 pub solved-requires : goal.solved-requires
-solved-requires g c = free_for g.S.Symbol.kind _ _ _ _ _ _ c.args.self.now.held c.in-Ok.answer c.args.self.now.holding c.in-Ok.ensures
+solved-requires g c = free_for g.S.Symbol.kind _ _ _ _ _ _ c.args.desk.now.held c.in-Ok.answer c.args.desk.now.holding c.in-Ok.ensures
 
-pub invariant_of-self : goal.invariant_of-self
-invariant_of-self g c =
+pub invariant_of-desk : goal.invariant_of-desk
+invariant_of-desk g c =
     let K = g.S.Symbol.kind in
-    let m = model c.args.self.now.block in
+    let m = model c.args.desk.now.block in
     let m' = model c.solve_pile.new.block in
     let pile = c.in-Some.pile.now in
     let r = c.in-Ok.answer in
     let made : PileSolved K (pile_code pile) c.args.policy c.args.asked_words c.args.symbols m (Ok r) m' =
     subst (λ n. PileSolved K (pile_code pile) c.args.policy n c.args.symbols m (Ok r) m') c.front-words.ensures (subst (λ n. PileSolved K (pile_code pile) c.args.policy (length c.front-words.result.now) n m (Ok r) m') c.front-sides.ensures c.in-Ok.ensures) in
     let acted = solved_so (setting K g.S.Carried.carriage c.args.codes.now (memory_of c.args.words.now c.args.sides.now)) m m' _ _ _ _ _ None pile r _ _ c.if-short.ensures (sym c.in-Some.ensures) made c.solved.ensures.entry c.solved.ensures.hand in
-    record { holding = ∥∥₁_map c.args.self.now.holding acted.holding }
+    record { holding = ∥∥₁_map c.args.desk.now.holding acted.holding }
 
-pub returns-in-Ok-clause-acted : goal.returns-in-Ok-clause-acted
-returns-in-Ok-clause-acted g c other =
+pub returns-in-Ok : goal.returns-in-Ok
+returns-in-Ok g c other =
     let K = g.S.Symbol.kind in
-    let m = model c.args.self.now.block in
+    let m = model c.args.desk.now.block in
     let m' = model c.solve_pile.new.block in
     let pile = c.in-Some.pile.now in
     let r = c.in-Ok.answer in
@@ -39,10 +39,10 @@ returns-in-Ok-clause-acted g c other =
     subst (λ n. PileSolved K (pile_code pile) c.args.policy n c.args.symbols m (Ok r) m') c.front-words.ensures (subst (λ n. PileSolved K (pile_code pile) c.args.policy (length c.front-words.result.now) n m (Ok r) m') c.front-sides.ensures c.in-Ok.ensures) in
     solved_so _ m m' _ _ _ _ _ other pile r _ _ c.if-short.ensures (sym c.in-Some.ensures) made c.solved.ensures.entry c.solved.ensures.hand
 
-pub returns-in-Err-clause-acted : goal.returns-in-Err-clause-acted
-returns-in-Err-clause-acted g c other =
+pub returns-in-Err : goal.returns-in-Err
+returns-in-Err g c other =
     let K = g.S.Symbol.kind in
-    let m = model c.args.self.now.block in
+    let m = model c.args.desk.now.block in
     let m' = model c.solve_pile.new.block in
     let pile = c.in-Some.pile.now in
     let e = c.in-Err._none in
