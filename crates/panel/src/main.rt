@@ -14,6 +14,7 @@ struct Hand {
     policy: PolicyName,
 }
 
+// `let .. else { return Ok(None) }` is `?` of an `Option` where memory may run out too.
 impl Hand {
     // code CODE
     fn take_code(&mut self, heap: Global, line: &[u8]) -> Result<Option<String>, AllocError> {
@@ -66,6 +67,7 @@ fn main(rt: HostRuntime) -> io::Result<()> {
         code: None,
         policy: PolicyName::First,
     };
+    // By number, which is told where a line is not understood.
     for k in 1..u64::MAX {
         line.clear();
         if input.read_until(b'\n', &mut line)? == 0 {

@@ -1,7 +1,7 @@
 // The codes at the bottom of a pile, by what they are made of.
 use codes::{Record, Squares};
 
-#[derive(Drop)]
+#[derive(Drop, PartialEq, Eq, Debug)]
 pub enum Base {
     // The code of m rows and n columns with its ones where the records say.
     Listed {

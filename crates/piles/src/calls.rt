@@ -1,5 +1,5 @@
 // The calls that make a code and ask for a row of it, and the lines that answer them.
-ghost use Rattle.std.specs.Prelude.{◌≡◌, ◌++◌, IfOk, string_bytes, codes, decimal, OnOk};
+ghost use Rattle.std.specs.Prelude.{◌≡◌, ◌++◌, IfOk, string_bytes, codes};
 ghost use Rattle.codes.specs.Refusals.{told};
 ghost use Rattle.script.specs.Answers.{values_text};
 ghost use Rattle.piles.specs.Answers.{code_text, in_hand, no_code, row_text};
@@ -12,41 +12,22 @@ use codes::{Refusal, Shape};
 use refusals::Numbered;
 use std::alloc::{AllocError, Global};
 
-// Writes a number behind a space.
-fn push_number(text: &mut String, number: usize) -> Result<(), AllocError>
-    ensures { OnOk result (string_bytes text.new ≡ string_bytes text.old ++ (codes " " ++ decimal number)) }
-{
-    write!(text, " {number}")
-}
-
-// A line of words and then numbers.
-fn numbers_text(heap: Global, words: &str, numbers: &[usize]) -> Result<String, AllocError>
-    ensures { IfOk result (λ s. string_bytes s ≡ words.now ++ values_text numbers.now) }
-{
-    let mut text = String::from_str(heap, words)?;
-    for number in numbers {
-        push_number(&mut text, *number)?;
-    }
-    Ok(text)
-}
-
 // The line that tells whether a code is made.
 fn code_text(heap: Global, answer: Result<Shape, Refusal>) -> Result<String, AllocError>
     ensures { IfOk result (λ s. string_bytes s ≡ code_text (told answer)) }
 {
     match answer {
-        Ok(
-            Shape {
-                rows,
-                columns,
-                ones,
-            },
-        ) => numbers_text(heap, "code granted", &[rows, columns, ones]),
+        Ok(shape) => {
+            format!(in heap;
+                "code granted {} {} {}",
+                shape.rows, shape.columns, shape.ones
+            )
+        }
         Err(refusal) => {
-            let number = usize::from(refusal.number());
+            let number = refusal.number();
             match refusal {
-                Refusal::BadShape => numbers_text(heap, "code refused", &[number]),
-                Refusal::BadEntry(place) => numbers_text(heap, "code refused", &[number, place]),
+                Refusal::BadShape => format!(in heap; "code refused {number}"),
+                Refusal::BadEntry(place) => format!(in heap; "code refused {number} {place}"),
             }
         }
     }
@@ -57,13 +38,11 @@ pub fn take_code(heap: Global, pile: Pile, hand: &mut Option<Pile>) -> Result<St
     ensures text { IfOk result (λ s. string_bytes s ≡ code_text (shape_told (pile_code pile))) }
     ensures hand { hand.new ≡ in_hand (pile_code pile) pile hand.old }
 {
-    match sizes_of(&pile) {
-        Ok(shape) => {
-            *hand = Some(pile);
-            code_text(heap, Ok(shape))
-        }
-        Err(refusal) => code_text(heap, Err(refusal)),
+    let sizes = sizes_of(&pile);
+    if sizes.is_ok() {
+        *hand = Some(pile);
     }
+    code_text(heap, sizes)
 }
 
 // The line that tells of no code.
@@ -73,6 +52,17 @@ fn no_code(heap: Global) -> Result<String, AllocError>
     format!(in heap; "row no code in hand")
 }
 
+// The line that tells the columns of a row.
+fn columns_text(heap: Global, columns: &[usize]) -> Result<String, AllocError>
+    ensures { IfOk result (λ s. string_bytes s ≡ codes "row" ++ values_text columns.now) }
+{
+    let mut text = String::from_str(heap, "row")?;
+    for column in columns {
+        write!(text, " {column}")?;
+    }
+    Ok(text)
+}
+
 // Tells row r of the code in hand.
 pub fn tell_row(heap: Global, r: usize, hand: &Option<Pile>) -> Result<String, AllocError>
     ensures { IfOk result (λ s. string_bytes s ≡ row_text r hand.now) }
@@ -80,7 +70,7 @@ pub fn tell_row(heap: Global, r: usize, hand: &Option<Pile>) -> Result<String, A
     match hand {
         None => no_code(heap),
         Some(pile) => match row_of(heap, pile, r) {
-            Ok(columns) => numbers_text(heap, "row", columns?.as_slice()),
+            Ok(columns) => columns_text(heap, columns?.as_slice()),
             Err(_) => no_code(heap),
         },
     }

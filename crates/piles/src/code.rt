@@ -5,7 +5,7 @@ use quasi_cyclic::QuasiCyclic;
 mod making;
 mod questions;
 
-#[derive(Clone, Copy)]
+#[derive(Clone, Copy, PartialEq, Eq, Debug)]
 pub(crate) enum BaseCode<'a> {
     Listed(Listed<'a>),
     Circulant(QuasiCyclic<'a>),

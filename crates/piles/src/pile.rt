@@ -2,7 +2,7 @@
 use crate::base::Base;
 use codes::Squares;
 
-#[derive(Drop)]
+#[derive(Drop, PartialEq, Eq, Debug)]
 pub enum Pile {
     Single(Base),
     Interleaved(Squares, Base),

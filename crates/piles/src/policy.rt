@@ -2,7 +2,7 @@
 ghost use Rattle.std.specs.Prelude.{◌≡◌};
 ghost use Rattle.piles.specs.Policies.{plain_policy, component_over, policy_of};
 
-use script::{is_blank, is_word, split_word};
+use script::{only_word, split_word};
 
 #[derive(Clone, Copy, PartialEq, Eq, Debug)]
 pub enum PolicyName {
@@ -16,12 +16,10 @@ pub enum PolicyName {
 fn plain_policy(word: &[u8]) -> Option<PolicyName>
     ensures { result ≡ plain_policy word.now }
 {
-    if is_word(word, "first") {
-        Some(PolicyName::First)
-    } else if is_word(word, "heaviest") {
-        Some(PolicyName::Heaviest)
-    } else {
-        None
+    match word {
+        b"first" => Some(PolicyName::First),
+        b"heaviest" => Some(PolicyName::Heaviest),
+        _ => None,
     }
 }
 
@@ -39,16 +37,8 @@ fn component_over(policy: PolicyName) -> PolicyName
 pub fn read_policy(line: &[u8]) -> Option<PolicyName>
     ensures { result ≡ policy_of line.now }
 {
-    let (word, rest) = split_word(line);
-    if !is_word(word, "component") {
-        if !is_blank(rest) {
-            return None;
-        }
-        return plain_policy(word);
+    match split_word(line) {
+        (b"component", rest) => plain_policy(only_word(rest)?).map(component_over),
+        _ => plain_policy(only_word(line)?),
     }
-    let (word, rest) = split_word(rest);
-    if !is_blank(rest) {
-        return None;
-    }
-    plain_policy(word).map(component_over)
 }

@@ -1,5 +1,5 @@
-// How a line is read as a pile, or as a row.
-ghost use Rattle.std.specs.Prelude.{◌≡◌, IfOk};
+// How a line is read as a pile, or as a row. `let .. else { return Ok(None) }` is `?` of an `Option` where memory may run out too.
+ghost use Rattle.std.specs.Prelude.{◌≡◌, IfOk, MatchOption, Some, None};
 ghost use Rattle.std.specs.Option.{option_map};
 ghost use Rattle.script.specs.Calls.{only};
 ghost use Rattle.script.specs.Numbers.{number_of};
@@ -10,7 +10,7 @@ use crate::base::Base;
 use crate::pile::Pile;
 use crate::written::{read_list, split_at_byte};
 use codes::Squares;
-use script::{is_blank, is_word, read_number, split_word};
+use script::{is_blank, is_word, only_word, read_number, split_word};
 use std::alloc::{AllocError, Global};
 
 // Whether a word is `interleaved`.
@@ -27,15 +27,14 @@ fn read_size(word: &[u8]) -> Option<usize>
     Some(read_number(word)? as usize)
 }
 
-// The first three words as the sizes of squares, and what follows them.
-fn read_squares(line: &[u8]) -> (Option<Squares>, &[u8])
-    ensures squares { result.0 ≡ squares_of line.now }
-    ensures rest { result.1.now ≡ past 3 line.now }
+// The first three words as the sizes of squares, and what follows them; none where they are no sizes.
+fn read_squares(line: &[u8]) -> Option<(Squares, &[u8])>
+    ensures { MatchOption result (squares_of line.now ≡ None) (λ p. (squares_of line.now ≡ Some p.0) × (p.1.now ≡ past 3 line.now)) }
 {
     let (a, rest) = split_word(line);
     let (b, rest) = split_word(rest);
     let (z, rest) = split_word(rest);
-    (squares_of(a, b, z), rest)
+    Some((squares_of(a, b, z)?, rest))
 }
 
 fn squares_of(a: &[u8], b: &[u8], z: &[u8]) -> Option<Squares>
@@ -64,8 +63,7 @@ fn read_listed(heap: Global, line: &[u8]) -> Result<Option<Base>, AllocError>
 fn read_circulant(heap: Global, line: &[u8]) -> Result<Option<Base>, AllocError>
     ensures { IfOk result (λ o. option_map base_written o ≡ circulant_of line.now) }
 {
-    let (squares, rest) = read_squares(line);
-    let Some(squares) = squares else {
+    let Some((squares, rest)) = read_squares(line) else {
         return Ok(None);
     };
     Ok(read_list(heap, rest)?.map(|entries| Base::Circulant { squares, entries }))
@@ -75,13 +73,10 @@ fn read_circulant(heap: Global, line: &[u8]) -> Result<Option<Base>, AllocError>
 fn read_base(heap: Global, line: &[u8]) -> Result<Option<Base>, AllocError>
     ensures { IfOk result (λ o. option_map base_written o ≡ base_of line.now) }
 {
-    let (word, rest) = split_word(line);
-    if is_word(word, "listed") {
-        read_listed(heap, rest)
-    } else if is_word(word, "circulant") {
-        read_circulant(heap, rest)
-    } else {
-        Ok(None)
+    match split_word(line) {
+        (b"listed", rest) => read_listed(heap, rest),
+        (b"circulant", rest) => read_circulant(heap, rest),
+        _ => Ok(None),
     }
 }
 
@@ -119,8 +114,7 @@ fn read_bases(heap: Global, line: &[u8]) -> Result<Option<(Base, Base)>, AllocEr
 fn read_interleaved(heap: Global, line: &[u8]) -> Result<Option<Pile>, AllocError>
     ensures { IfOk result (λ o. option_map pile_written o ≡ interleaved_of line.now) }
 {
-    let (squares, below) = read_squares(line);
-    let Some(squares) = squares else {
+    let Some((squares, below)) = read_squares(line) else {
         return Ok(None);
     };
     let (word, rest) = split_word(below);
@@ -141,15 +135,15 @@ fn read_stacked(heap: Global, line: &[u8]) -> Result<Option<Pile>, AllocError>
         let bases = read_bases(heap, line)?;
         return Ok(bases.map(|(first, second)| Pile::Stacked(first, second)));
     }
-    let (squares, rest) = read_squares(rest);
-    let Some(squares) = squares else {
+    let Some((squares, rest)) = read_squares(rest) else {
         return Ok(None);
     };
     let bases = read_bases(heap, rest)?;
     Ok(bases.map(|(first, second)| Pile::InterleavedInStack(squares, first, second)))
 }
 
-// The pile that a line writes; none where it is not understood.
+// The pile that a line writes; none where it is not understood. Not by a `match` on the word, here and in the two functions
+// above: behind the arm `_` the word is known byte by byte only, and the goal `returns-in_ok-read_base-in_default` stayed open.
 pub fn read_pile(heap: Global, line: &[u8]) -> Result<Option<Pile>, AllocError>
     ensures { IfOk result (λ o. option_map pile_written o ≡ pile_of line.now) }
 {
@@ -167,9 +161,5 @@ pub fn read_pile(heap: Global, line: &[u8]) -> Result<Option<Pile>, AllocError>
 pub fn read_row(line: &[u8]) -> Option<u32>
     ensures { result ≡ only 1 line.now (number_of (word 0 line.now)) }
 {
-    let (word, rest) = split_word(line);
-    if !is_blank(rest) {
-        return None;
-    }
-    read_number(word)
+    read_number(only_word(line)?)
 }

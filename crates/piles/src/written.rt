@@ -1,4 +1,4 @@
-// What a word of a list writes: a record, or a base entry.
+// What a word of a list writes: a record, or a base entry. `let .. else { return Ok(None) }` is `?` of an `Option` where memory may run out too.
 ghost use Rattle.std.specs.Prelude.{◌≡◌, ◌==◌, ℕ, List, IfOk, vec_items, Option, position};
 ghost use Rattle.std.specs.Option.{option_map};
 ghost use Rattle.piles.specs.Readings.{half_of, cut_at, record_of, entry_of, list_of};
@@ -62,10 +62,7 @@ impl Written for i16 {
         if *first == b'+' {
             return None;
         }
-        let Ok(text) = from_utf8(word) else {
-            return None;
-        };
-        text.parse::<i16>().ok()
+        from_utf8(word).ok()?.parse::<i16>().ok()
     }
 }
 

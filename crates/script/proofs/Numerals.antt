@@ -1,5 +1,6 @@
 -- How `number_of` answers: none for what is no numeral, and else what `parse` reads.
-use Rattle.std.proofs.Common.{◌≡◌, ℕ, ◌^◌, ◌<◌, true, List, [], ◌∷◌, length, get_or, None, Ok, Err, IsUtf8, Result, refl, arith}
+use Rattle.std.proofs.Common.{◌≡◌, ℕ, ◌^◌, ◌<◌, true, List, [], ◌∷◌, length, get_or, Some, None, Ok, Err, IsUtf8, Result, Bor, refl, arith, rules}
+use Rattle.std.specs.Result.{MatchResult}
 use Rattle.std.specs.Result.{OkIff, result_ok}
 use Rattle.std.specs.Str.Parse.{ParsesUnsigned, digits_value}
 use Rattle.std.specs.Str.{all_ascii_digits}
@@ -28,3 +29,13 @@ converted [] (Err e) h = refl
 
 pub number_parsed : {E : Type 0} (word : List ℕ) (r : Result ℕ E) → ParsesUnsigned 32 10 word r → (get_or word 0 0 ≡ 43 → ⊥) → result_ok r ≡ number_of word
 number_parsed word r reads plain = converted word r (parse_plain own 32 word r reads plain)
+
+-- bytes of which `from_utf8` made no text
+pub unread : {E : Type 0} (Q : E → Type 0) (word : List ℕ) (r : Result (Bor (List ℕ)) E) → MatchResult r (λ s. (s.now ≡ word) × IsUtf8 word) (λ e. (IsUtf8 word → ⊥) × Q e) → result_ok r ≡ None → IsUtf8 word → ⊥
+unread Q word (Ok s) h e is = search (rules, e)
+unread Q word (Err x) h e is = h.0 is
+
+-- the text that `from_utf8` made
+pub text_read : {E : Type 0} (Q : E → Type 0) (word : List ℕ) (r : Result (Bor (List ℕ)) E) (s : Bor (List ℕ)) → MatchResult r (λ s. (s.now ≡ word) × IsUtf8 word) (λ e. (IsUtf8 word → ⊥) × Q e) → result_ok r ≡ Some s → s.now ≡ word
+text_read Q word (Ok t) s h e = search (rules, h.0, e)
+text_read Q word (Err x) s h e = search (rules, e)

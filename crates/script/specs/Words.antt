@@ -9,10 +9,11 @@
 --   word          a word by its place, empty past the last
 --   Split         a line's first word is taken off; there is none where the line is blank
 --   blank         whether a line has no word
+--   only_word     the first word of a line, empty where there is none; none where another follows
 --   comment       whether a line begins with '#'
 --   passed_over   whether a line is a comment or blank
 use Rattle.std.specs.Borrow.{Bor}
-use Rattle.std.specs.Prelude.{◌≡◌, ℕ, zero, suc, Bool, false, not, Some, None, Option, ◌||◌, List, [], ◌∷◌, length, take, drop, ◌==◌}
+use Rattle.std.specs.Prelude.{◌≡◌, ℕ, zero, suc, Bool, false, cond, not, Some, None, Option, ◌||◌, List, [], ◌∷◌, length, take, drop, ◌==◌}
 use Rattle.std.specs.List.{position_or_len}
 
 abbrev pub separates : ℕ → Bool
@@ -43,6 +44,9 @@ Split line (Some w) rest = (w.now ≡ first_word line) × ((length w.now ≡ 0 �
 
 abbrev pub blank : List ℕ → Bool
 blank line = length (skip line) == 0
+
+abbrev pub only_word : List ℕ → Option (List ℕ)
+only_word line = cond (blank (after_word line)) (Some (first_word line)) None
 
 abbrev pub comment : List ℕ → Bool
 comment [] = false

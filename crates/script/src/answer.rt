@@ -12,7 +12,7 @@ use refusals::Numbered;
 use std::alloc::{AllocError, Global};
 use std::fmt;
 
-#[derive(Clone, Copy)]
+#[derive(Clone, Copy, PartialEq, Eq, Debug)]
 pub enum Answer {
     // A block number and a packet number.
     Read(Result<(u32, u32), HeaderFault>),

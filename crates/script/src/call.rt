@@ -1,4 +1,4 @@
-// The calls of the script language, and how a line is read as one.
+// The calls of the script language, and how a line is read as one. `let .. else { return Ok(None) }` is `?` of an `Option` where memory may run out too.
 ghost use Rattle.std.specs.Prelude.{◌≡◌, IfOk, Some};
 ghost use Rattle.std.specs.Option.{option_map};
 ghost use Rattle.std.specs.Str.{bytes_eq};
@@ -6,11 +6,11 @@ ghost use Rattle.script.specs.Calls.{asked, sized, write_asked, cell_word, lengt
 
 use crate::hex::from_hex;
 use crate::number::read_number;
-use crate::word::{is_blank, split_word};
+use crate::word::{is_blank, only_word, split_word};
 use packets::CELL;
 use std::alloc::{AllocError, Global};
 
-#[derive(Drop)]
+#[derive(Drop, PartialEq, Eq, Debug)]
 pub enum Call {
     // Reads the header of these bytes.
     Read(Vec<u8>),
@@ -39,10 +39,9 @@ pub fn is_word(word: &[u8], text: &str) -> bool
 fn parse_read(heap: Global, line: &[u8]) -> Result<Option<Call>, AllocError>
     ensures { IfOk result (λ o. option_map asked o ≡ read_call line.now) }
 {
-    let (hex, rest) = split_word(line);
-    if !is_blank(rest) {
+    let Some(hex) = only_word(line) else {
         return Ok(None);
-    }
+    };
     Ok(from_hex(heap, hex)?.map(Call::Read))
 }
 
@@ -67,11 +66,7 @@ fn parse_length(line: &[u8]) -> Option<u32>
     if is_blank(line) {
         return Some(68);
     }
-    let (length, rest) = split_word(line);
-    if !is_blank(rest) {
-        return None;
-    }
-    read_number(length)
+    read_number(only_word(line)?)
 }
 
 // A call of what its words gave.
@@ -112,29 +107,21 @@ fn parse_figure(line: &[u8]) -> Option<Call>
     ensures { option_map asked result ≡ figure_call line.now }
 {
     let (received, rest) = split_word(line);
-    let (n, rest) = split_word(rest);
-    if !is_blank(rest) {
-        return None;
-    }
+    let n = only_word(rest)?;
     Some(Call::Figure {
         received: read_number(received)?,
         n: read_number(n)?,
     })
 }
 
-// The call of a line; none where the line is not understood. Not by a `match` on the word: of `b"figure"` its arm knows the
-// length alone.
+// The call of a line; none where the line is not understood.
 pub fn parse(heap: Global, line: &[u8]) -> Result<Option<Call>, AllocError>
     ensures { IfOk result (λ o. option_map asked o ≡ understood line.now) }
 {
-    let (word, rest) = split_word(line);
-    if is_word(word, "read") {
-        parse_read(heap, rest)
-    } else if is_word(word, "write") {
-        parse_write(heap, rest)
-    } else if is_word(word, "figure") {
-        Ok(parse_figure(rest))
-    } else {
-        Ok(None)
+    match split_word(line) {
+        (b"read", rest) => parse_read(heap, rest),
+        (b"write", rest) => parse_write(heap, rest),
+        (b"figure", rest) => Ok(parse_figure(rest)),
+        _ => Ok(None),
     }
 }

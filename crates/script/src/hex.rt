@@ -8,25 +8,11 @@ ghost use Rattle.script.specs.Hex.{digit_value, byte_digits, byte_of, pairs_of, 
 use std::alloc::{AllocError, Global};
 use std::fmt;
 
-// The character of a digit.
-fn digit(value: u8) -> char
-    requires { value < 16 }
-    ensures ascii { result < 128 }
-    ensures value { result ≡ digit_char value }
-{
-    if value < 10 {
-        char::from(b'0' + value)
-    } else {
-        char::from(b'a' + (value - 10))
-    }
-}
-
 // Writes the two digits of a byte.
 pub(crate) fn write_byte<W: fmt::Write>(f: &mut fmt::Formatter<W>, byte: u8) -> fmt::Result
     ensures { WritesOnOk W.write_str_gives f.old result (byte_digits byte) f.new }
 {
-    f.write_char(digit(byte / 16))?;
-    f.write_char(digit(byte % 16))
+    write!(f, "{byte:02x}")
 }
 
 // What stands before the digits: `-` where there are none.
@@ -40,7 +26,7 @@ fn mark(bytes: &[u8]) -> &'static str
 }
 
 // Bytes that print as their text.
-#[derive(Clone, Copy)]
+#[derive(Clone, Copy, PartialEq, Eq, Debug)]
 pub struct Hex<'a>(pub &'a [u8]);
 
 impl fmt::Display for Hex<'_> {

@@ -6,6 +6,8 @@ mod call;
 mod hex;
 mod line;
 mod number;
+#[cfg(test)]
+mod tests;
 mod word;
 mod words;
 
@@ -14,5 +16,5 @@ pub use call::{Call, is_word, parse};
 pub use hex::{Hex, from_hex, to_hex};
 pub use line::{answer_line, refuse_line};
 pub use number::read_number;
-pub use word::{is_blank, split_word};
+pub use word::{is_blank, only_word, split_word};
 pub use words::Words;

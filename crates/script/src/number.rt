@@ -11,8 +11,5 @@ pub fn read_number(word: &[u8]) -> Option<u32>
     let [b'0'..=b'9', ..] = word else {
         return None;
     };
-    let Ok(text) = from_utf8(word) else {
-        return None;
-    };
-    text.parse::<u32>().ok()
+    from_utf8(word).ok()?.parse::<u32>().ok()
 }

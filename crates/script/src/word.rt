@@ -1,6 +1,7 @@
 // The words of a line.
 ghost use Rattle.std.specs.Prelude.{◌≡◌, position};
-ghost use Rattle.script.specs.Words.{separates, in_word, skip, first_word, after_word, blank, passed_over};
+ghost use Rattle.std.specs.Option.{option_map};
+ghost use Rattle.script.specs.Words.{separates, in_word, skip, first_word, after_word, blank, only_word, passed_over};
 
 // Whether a byte separates words: a space, a tab or a carriage return.
 fn separates(byte: u8) -> bool
@@ -44,6 +45,14 @@ pub fn is_blank(line: &[u8]) -> bool
     ensures { result ≡ blank line.now }
 {
     skip(line).is_empty()
+}
+
+// The first word, empty where there is none; none where another follows.
+pub fn only_word(line: &[u8]) -> Option<&[u8]>
+    ensures { option_map (λ w. w.now) result ≡ only_word line.now }
+{
+    let (word, rest) = split_word(line);
+    is_blank(rest).then_some(word)
 }
 
 // Whether a line is a comment or blank.

@@ -6,7 +6,7 @@ ghost use Rattle.script.specs.Words.{Split};
 use crate::word::split_word;
 
 // What is left of the line.
-#[derive(Clone, Copy)]
+#[derive(Clone, Copy, PartialEq, Eq, Debug)]
 pub struct Words<'a> {
     rest: &'a [u8],
 }

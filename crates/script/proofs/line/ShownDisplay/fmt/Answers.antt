@@ -1,7 +1,7 @@
-use Rattle.std.proofs.Common.{◌≡◌, ◌+◌, [], ◌++◌, get_or, drop, ap, sym, ◌∙◌, append_assoc, append-nil, rules}
+use Rattle.std.proofs.Common.{[], ◌++◌, get_or, ap, sym, ◌∙◌, append_assoc, append-nil, rules}
 use Rattle.std.proofs.Output.{has_written_append, has_written_of_eq}
 use Rattle.std.proofs.lemmas.List.{at_drop_more, at_drop_all}
-use Rattle.script.specs.Lines.{escaped, all_escaped, shown}
+use Rattle.script.specs.Lines.{escaped, all_escaped}
 use Rattle.script.proofs.line.ShownDisplay.fmt.Goals as goal
 
 pub loop-byte-init : goal.loop-byte-init
