@@ -9,7 +9,8 @@ use policies::Policy;
 use receiver::Desk;
 use symbols::Symbol;
 
-// Solves; the permit in hand afterwards is the one given, or the one before.
+// Solves; the permit in hand afterwards is the one given, or the one before. The session's own has another entry; one function
+// for both would have a precondition.
 fn obey_solve<S: Symbol, C: Code, P: Policy>(
     desk: &mut Desk<'_, S>,
     code: &C,

@@ -23,7 +23,7 @@ fn plain_policy(word: &[u8]) -> Option<PolicyName>
     }
 }
 
-// Component over a plain policy.
+// Component over a plain policy. Two of the four cases come: a third enum would be turned back wherever a policy is named.
 fn component_over(policy: PolicyName) -> PolicyName
     ensures { result ≡ component_over policy }
 {

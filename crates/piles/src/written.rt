@@ -56,10 +56,7 @@ impl Written for i16 {
     ghost written = { entry_of };
 
     fn of_word(word: &[u8]) -> Option<i16> {
-        let [first, ..] = word else {
-            return None;
-        };
-        if *first == b'+' {
+        if *word.first()? == b'+' {
             return None;
         }
         from_utf8(word).ok()?.parse::<i16>().ok()

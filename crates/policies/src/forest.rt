@@ -9,6 +9,7 @@ use crate::columns::Columns;
 use crate::top::{Numbers, raise};
 use codes::MAX_COLUMNS;
 
+// An array, in fixed memory. What indexes it is bounded in the contracts: a type for it would be turned back at each array.
 #[derive(Drop)]
 pub(crate) struct Forest {
     up: Numbers,

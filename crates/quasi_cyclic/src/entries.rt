@@ -12,7 +12,7 @@ pub(crate) fn shift(e: i16) -> Option<u16>
     u16::try_from(e).ok()
 }
 
-// The column that row r holds within a square of shift s.
+// The column that row r holds within a square of shift s. That z is small the caller's own invariant says.
 pub(crate) fn turned(z: usize, r: usize, s: usize) -> usize
     requires within { s < z }
     requires small { z ≤ 512 }

@@ -31,6 +31,7 @@ pub struct Marks {
     ghost flags: { length received ≡ 512 },
 }
 
+// No equality, since it holds what the caller lends.
 #[derive(Drop)]
 pub struct Block<'a, S> {
     table: &'a mut [S],

@@ -7,7 +7,7 @@ use crate::block::Block;
 use crate::permit::Permit;
 use symbols::Symbol;
 
-// The permit in hand is the block's, and none is in hand only where none is out.
+// The permit in hand is the block's, and none is in hand only where none is out. No equality, since it holds what is lent.
 pub struct Desk<'a, S> {
     pub block: Block<'a, S>,
     pub held: Option<Permit>,

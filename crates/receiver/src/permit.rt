@@ -5,6 +5,7 @@ ghost use Rattle.std.specs.Prelude.{◌≡◌};
 use crate::fault::Stamp;
 use search::Report;
 
+// Two numbers say whose it is, and accessors hand them out one by one; no equality, since the report is no part of that.
 pub struct Permit {
     number: u32,
     stamp: Stamp,
@@ -49,6 +50,7 @@ impl Permit {
         self.stamp
     }
 
+    // As a search's `Found`, of its own field.
     pub fn report(&self) -> Report
         ensures { result ≡ self.now.report }
     {

@@ -74,16 +74,14 @@ fn read_pairs(heap: Global, digits: &[u8]) -> Result<Option<Vec<u8>>, AllocError
     let mut bytes = Vec::new(heap);
     let mut rest = digits;
     while let [high, low, more @ ..] = rest {
+        // `?` of an `Option`, where memory may run out too.
         let Some(byte) = read_byte(*high, *low) else {
             return Ok(None);
         };
         bytes.push(byte)?;
         rest = more;
     }
-    match rest {
-        [] => Ok(Some(bytes)),
-        _ => Ok(None),
-    }
+    Ok(rest.is_empty().then_some(bytes))
 }
 
 // The bytes of a text; none where it is no such text.

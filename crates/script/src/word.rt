@@ -59,8 +59,5 @@ pub fn only_word(line: &[u8]) -> Option<&[u8]>
 pub(crate) fn passed_over(line: &[u8]) -> bool
     ensures { result ≡ passed_over line.now }
 {
-    match line {
-        [b'#', ..] => true,
-        _ => is_blank(line),
-    }
+    matches!(line, [b'#', ..]) || is_blank(line)
 }

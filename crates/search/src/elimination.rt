@@ -8,7 +8,7 @@ use crate::uses::Uses;
 use arrayvec::ArrayVec;
 use policies::Columns;
 
-// Each active column may still become a pivot. What holds while it peels (`Going`) is no ghost field, since settling leaves it;
+// No equality, since it holds what the caller lends. Each active column may still become a pivot. What holds while it peels (`Going`) is no ghost field, since settling leaves it;
 // that the memory stays the caller's (`SameMemory`) each method says, since of a struct that holds a `&mut` nothing else does.
 #[derive(Drop)]
 pub struct Elimination<'m, S> {

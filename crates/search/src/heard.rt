@@ -3,6 +3,7 @@ ghost use Rattle.std.specs.Prelude.{◌≡◌, length};
 
 use codes::{Code, Rows};
 
+// No equality, since it holds what the caller lends.
 #[derive(Drop)]
 pub struct Heard<'t, S, C: Code> {
     pub code: &'t C,

@@ -43,6 +43,7 @@ impl<S: Symbol, C: Code> Heard<'_, S, C> {
         let mut line = [0; 8];
         let mut lost = 0;
         heard.clear();
+        // The missing ones are counted on the way, so that the set is not walked again.
         for c in self.code.row(r) {
             if self.received[c] {
                 heard.push(c as u16);

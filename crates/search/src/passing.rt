@@ -12,6 +12,7 @@ pub(crate) fn passing<F: Fn(usize) -> bool>(n: usize, test: F) -> Columns
     ensures { (t : ℕ → Bool) → ((c : ℕ) (b : Bool) → c < n → F.post test c b → b ≡ t c) → shown result ≡ map t (range_with_len 0 n) }
 {
     let mut set = Columns::none(n);
+    // Over the numbers, since they are what is tested and put in.
     for c in 0..n {
         if test(c) {
             set.put(c);

@@ -153,6 +153,7 @@ impl<S: Symbol> Elimination<'_, S> {
         ensures going { Going S.Symbol.kind self.new }
         ensures state { view S.Symbol.kind self.new policy.new ≡ steps S.Symbol.kind (P.Policy.choice (C.Rows.matrix code.now)) (C.Rows.matrix code.now).width (view S.Symbol.kind self.old policy.old) }
     {
+        // It counts nothing.
         while self.advance(code, policy) {}
     }
 }

@@ -56,7 +56,7 @@ fn side_at<S: Symbol>(sides: &[S], r: usize) -> S
 }
 
 impl Found {
-    // What the search counted.
+    // What the search counted. (A permit has the same of its own.)
     pub fn report(&self) -> Report
         ensures { result ≡ self.now.report }
     {

@@ -33,6 +33,7 @@ pub(crate) fn add_to_each<S: Symbol>(
 {
     let line = bits::line_at(words, r);
     let side = sides[r];
+    // Counted as they are added, so that the set is walked once.
     let mut count = 0;
     for q in others {
         add_line(words, sides, q, &line, &side);

@@ -70,6 +70,7 @@ fn run<S: Symbol, C: Code, P: Policy>(
 // Searches the codewords of a code that agree with a table at the places received, with a policy, in working memory of
 // eight words and one symbol for each row. With one codeword the right sides are left for reading it out; else, and in
 // the words, zero is left.
+// Words and right sides are two slices, as the rules speak of them.
 pub fn look<S: Symbol, C: Code, P: Policy>(
     code: &C,
     policy: &mut P,

@@ -83,7 +83,7 @@ fn pile_at(codes: &[Pile], code: Option<usize>) -> Option<&Pile>
     codes.get(code?)
 }
 
-// Puts a permit into an empty hand.
+// Puts a permit into an empty hand. Private here: as a public function it would have a precondition.
 fn put(hand: &mut Option<Permit>, permit: Permit)
     requires { hand.old ≡ None }
     ensures { hand.new ≡ Some permit }

@@ -94,7 +94,7 @@ impl<'a, S: Carried> Seat<'a, S> {
     }
 }
 
-// Lets an empty hand go.
+// Lets an empty hand go. Private, as `put`.
 fn let_go(hand: Option<Permit>)
     requires { hand ≡ None }
 {

@@ -58,7 +58,8 @@ fn judge(m: usize, n: usize, records: &[Record]) -> Result<(), Refusal>
 }
 
 impl<'a> Listed<'a> {
-    // The smallest code: one empty row of one column. `make` overwrites it, since no code stands in a `Result`.
+    // The smallest code: one empty row of one column. `make` overwrites it: the rules fix a making over a code that
+    // the caller holds.
     pub fn smallest() -> Listed<'a>
         ensures { listed_matrix result ≡ listed 1 1 [] }
     {

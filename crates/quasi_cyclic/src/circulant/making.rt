@@ -9,7 +9,8 @@ use crate::entries::judge;
 use codes::{Refusal, Squares};
 
 impl<'a> QuasiCyclic<'a> {
-    // The smallest code: one empty square of one row and one column. `make` overwrites it, since no code stands in a `Result`.
+    // The smallest code: one empty square of one row and one column. `make` overwrites it: the rules fix a making over a code that
+    // the caller holds.
     pub fn smallest() -> QuasiCyclic<'a>
         ensures { circulant_matrix result ≡ quasi_cyclic 1 1 1 (negsuc 0 ∷ []) }
     {

@@ -1,5 +1,6 @@
 // The calls on a block, all but solve. Each contract says what the call does (step) and that the promise over all
-// histories goes on with it (history); lent says that the block still holds the caller's table.
+// histories goes on with it (history); lent says that the block still holds the caller's table,
+// which of a struct that holds a `&mut` nothing else does.
 ghost use Rattle.std.specs.Prelude.{◌≡◌, false, [], ◌∷◌, length, is_ok, IfErr, None};
 ghost use Rattle.receiver.specs.Calls.{open_refusal};
 ghost use Rattle.packets.specs.Figure.{percent};

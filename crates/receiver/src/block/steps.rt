@@ -94,7 +94,7 @@ pub fn open_fault(number: u32, stamp: Stamp, places: usize) -> Result<(), Fault>
     if stamp == 0 {
         return Err(Fault::NoStamp);
     }
-    if places == 0 || places > MOST_PLACES {
+    if !(1..=MOST_PLACES).contains(&places) {
         return Err(Fault::TableLength(places));
     }
     Ok(())
