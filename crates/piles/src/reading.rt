@@ -13,7 +13,7 @@ use codes::Squares;
 use script::{is_blank, is_word, only_word, read_number, split_word};
 use std::alloc::{AllocError, Global};
 
-// Whether a word is `interleaved`.
+// Whether a word is `interleaved`, which two readers ask.
 fn is_interleaved(word: &[u8]) -> bool
     ensures { result ≡ interleaved_word word.now }
 {

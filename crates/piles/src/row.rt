@@ -15,7 +15,7 @@ pub(crate) struct AskRow {
     r: usize,
 }
 
-// The columns of row r, in their order.
+// The columns of row r, in their order: the clause that the task below hands on.
 fn columns<C: Code>(heap: Global, code: &C, r: usize) -> Result<Vec<usize>, AllocError>
     ensures { IfOk result (λ v. v.items ≡ row_at (C.Rows.matrix code.now) r) }
 {

@@ -53,7 +53,7 @@ impl<S: Symbol> Elimination<'_, S> {
     }
 }
 
-// A search in memory of just the size of the code.
+// A search in memory of just the size of the code: what is proved of it goes on to memory of any length below.
 fn run<S: Symbol, C: Code, P: Policy>(
     heard: &Heard<'_, S, C>,
     policy: &mut P,

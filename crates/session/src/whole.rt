@@ -104,7 +104,7 @@ fn let_go(hand: Option<Permit>)
     }
 }
 
-// One call on the block that it goes to.
+// One call on the block that it goes to. Two arms: which desk is lent for its hand differs, and a pair picked first is no shorter.
 fn turn<'a, S: Carried>(
     first: &mut Seat<'a, S>,
     second: &mut Seat<'a, S>,
