@@ -85,8 +85,13 @@ fn halves(line: &[u8]) -> Option<(&[u8], &[u8])>
     ensures { option_map (λ p. (p.0.now, p.1.now)) result ≡ halves_of line.now }
 {
     let (before, behind) = split_at_byte(line, b'+')?;
-    let last = before.last()?;
-    let first = behind.first()?;
+    // Not by `last()?` and `first()?`: the goal `returns` stayed open.
+    let [.., last] = before else {
+        return None;
+    };
+    let [first, ..] = behind else {
+        return None;
+    };
     (is_blank(&[*last]) && is_blank(&[*first])).then_some((before, behind))
 }
 

@@ -56,7 +56,11 @@ impl Written for i16 {
     ghost written = { entry_of };
 
     fn of_word(word: &[u8]) -> Option<i16> {
-        if *word.first()? == b'+' {
+        // A slice pattern, which says no less than `first()?`.
+        let [first, ..] = word else {
+            return None;
+        };
+        if *first == b'+' {
             return None;
         }
         from_utf8(word).ok()?.parse::<i16>().ok()
