@@ -17,6 +17,7 @@ pub struct Desk<'a, S> {
 impl<'a, S: Symbol> Desk<'a, S> {
     // Closes the block under the permit in hand, and tells whether one was.
     pub fn close(&mut self) -> bool
+        ensures lent { self.new.block.table.ghost_name ≡ self.old.block.table.ghost_name }
         ensures told { result ≡ is_some self.old.held }
         ensures held { self.new.held ≡ None }
         ensures closed { ClosedUnder S.Symbol.kind (model self.old.block) self.old.held (model self.new.block) }
