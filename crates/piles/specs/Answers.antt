@@ -1,7 +1,6 @@
 -- The lines that answer calls about a code.
 --
 --   code_text      the line that tells whether a code is made, with its sizes or the cause
---   in_hand        the pile in hand after a making: the new one where it is granted, and else the one before
 --   no_code        the line that tells of no code in hand
 --   row_of_code, row_text    the line that tells row r of the code in hand
 use Rattle.std.specs.Prelude.{ℕ, List, [], ◌∷◌, ◌++◌, Some, None, Ok, Err, codes, Option, Result}
@@ -15,10 +14,6 @@ use Rattle.piles.specs.declared.pile.Pile.{Pile}
 abbrev pub code_text : Result Shape Cause → List ℕ
 code_text (Ok s) = codes "code granted" ++ values_text (s.rows ∷ s.columns ∷ s.ones ∷ [])
 code_text (Err c) = codes "code refused" ++ values_text (c.number ∷ c.values)
-
-abbrev pub in_hand : Result Matrix Cause → Pile → Option Pile → Option Pile
-in_hand (Ok k) pile hand = Some pile
-in_hand (Err c) pile hand = hand
 
 abbrev pub no_code : List ℕ
 no_code = codes "row no code in hand"

@@ -3,7 +3,6 @@
 --   WrittenBase, WrittenPile     a base and a pile by what is written of them, lists in place of vectors
 --   base_written, pile_written   what is written of a base and of a pile of the program
 --   paired                       two values put together, none where one is none
---   cut_at                       a text cut at the first such byte, none where it has none
 --   narrow, half_of              a number of 16 bits
 --   record_from, record_of       the record that a word R:C writes
 --   entry_of                     the base entry that a word writes: a number of 16 bits, with a minus sign or without
@@ -19,12 +18,11 @@
 use Rattle.std.specs.Prelude.{ℕ, zero, suc, ◌+◌, ◌-◌, ◌^◌, Bool, false, cond, ◌&&◌, List, [], ◌∷◌, length, take, drop, ℤ, pos, neg_ℤ, Some, None, vec_items, codes, Option, ◌==◌, nat_le, nat_lt, slice_index}
 use Rattle.std.specs.Option.{option_map}
 use Rattle.std.specs.Str.Parse.{digits_value}
-use Rattle.std.specs.List.{position}
 use Rattle.std.specs.Str.{bytes_eq}
 use Rattle.codes.specs.declared.record.Record.{Record}
 use Rattle.codes.specs.declared.squares.Squares.{Squares}
 use Rattle.script.specs.Numbers.{numeral, number_of}
-use Rattle.script.specs.Words.{word, past, blank}
+use Rattle.script.specs.Words.{word, past, blank, cut_at}
 use Rattle.piles.specs.declared.base.Base.{Base}
 use Rattle.piles.specs.declared.base.Base.TheVariants.{Listed, Circulant}
 use Rattle.piles.specs.declared.pile.Pile.{Pile}
@@ -56,9 +54,6 @@ abbrev pub paired : {A B C : Type 0} → (A → B → C) → Option A → Option
 paired f None b = None
 paired f (Some a) None = None
 paired f (Some a) (Some b) = Some (f a b)
-
-abbrev pub cut_at : ℕ → List ℕ → Option (List ℕ × List ℕ)
-cut_at byte text = option_map (λ i. (take i text, drop (i + 1) text)) (position (λ b. b == byte) text)
 
 abbrev pub narrow : Option ℕ → Option ℕ
 narrow None = None

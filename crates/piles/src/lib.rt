@@ -13,7 +13,7 @@ mod task;
 mod written;
 
 pub use base::Base;
-pub use calls::{take_code, tell_row};
+pub use calls::{code_text, tell_row};
 pub use codes::Squares;
 pub use pile::Pile;
 pub use policy::{PolicyName, read_policy};

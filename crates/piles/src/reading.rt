@@ -8,9 +8,9 @@ ghost use Rattle.piles.specs.Readings.{base_written, pile_written, squares_from,
 
 use crate::base::Base;
 use crate::pile::Pile;
-use crate::written::{read_list, split_at_byte};
+use crate::written::read_list;
 use codes::Squares;
-use script::{is_blank, is_word, only_word, read_number, split_word};
+use script::{is_blank, is_word, only_word, read_number, split_at_byte, split_word};
 use std::alloc::{AllocError, Global};
 
 // Whether a word is `interleaved`, which two readers ask.

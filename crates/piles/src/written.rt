@@ -1,10 +1,10 @@
 // What a word of a list writes: a record, or a base entry. `let .. else { return Ok(None) }` is `?` of an `Option` where memory may run out too.
-ghost use Rattle.std.specs.Prelude.{◌≡◌, ◌==◌, ℕ, List, IfOk, vec_items, Option, position};
+ghost use Rattle.std.specs.Prelude.{◌≡◌, ℕ, List, IfOk, vec_items, Option};
 ghost use Rattle.std.specs.Option.{option_map};
-ghost use Rattle.piles.specs.Readings.{half_of, cut_at, record_of, entry_of, list_of};
+ghost use Rattle.piles.specs.Readings.{half_of, record_of, entry_of, list_of};
 
 use codes::Record;
-use script::{Words, read_number};
+use script::{Words, read_number, split_at_byte};
 use std::alloc::{AllocError, Global};
 use std::str::from_utf8;
 
@@ -21,21 +21,6 @@ fn read_half(word: &[u8]) -> Option<u16>
     ensures { result ≡ half_of word.now }
 {
     u16::try_from(read_number(word)?).ok()
-}
-
-// Where the first such byte stands.
-fn place_of(text: &[u8], byte: u8) -> Option<usize>
-    ensures { result ≡ position (λ b. b == byte) text.now }
-{
-    text.iter().position(|b| *b == byte)
-}
-
-// What stands before the first such byte, and what behind it.
-pub(crate) fn split_at_byte(text: &[u8], byte: u8) -> Option<(&[u8], &[u8])>
-    ensures { option_map (λ p. (p.0.now, p.1.now)) result ≡ cut_at byte text.now }
-{
-    let i = place_of(text, byte)?;
-    Some((&text[..i], &text[i + 1..]))
 }
 
 // R:C

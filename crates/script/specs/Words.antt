@@ -12,9 +12,11 @@
 --   only_word     the first word of a line, empty where there is none; none where another follows
 --   comment       whether a line begins with '#'
 --   passed_over   whether a line is a comment or blank
+--   cut_at        a text cut at the first such byte, none where it has none
 use Rattle.std.specs.Borrow.{Bor}
-use Rattle.std.specs.Prelude.{◌≡◌, ℕ, zero, suc, Bool, false, cond, not, Some, None, Option, ◌||◌, List, [], ◌∷◌, length, take, drop, ◌==◌}
-use Rattle.std.specs.List.{position_or_len}
+use Rattle.std.specs.Prelude.{◌≡◌, ℕ, zero, suc, ◌+◌, Bool, false, cond, not, Some, None, Option, ◌||◌, List, [], ◌∷◌, length, take, drop, ◌==◌}
+use Rattle.std.specs.List.{position, position_or_len}
+use Rattle.std.specs.Option.{option_map}
 
 abbrev pub separates : ℕ → Bool
 separates byte = byte == 32 || (byte == 9 || byte == 13)
@@ -54,3 +56,6 @@ comment (b ∷ bs) = b == 35
 
 abbrev pub passed_over : List ℕ → Bool
 passed_over line = comment line || blank line
+
+abbrev pub cut_at : ℕ → List ℕ → Option (List ℕ × List ℕ)
+cut_at byte text = option_map (λ i. (take i text, drop (i + 1) text)) (position (λ b. b == byte) text)

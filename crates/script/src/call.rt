@@ -45,8 +45,8 @@ fn parse_read(heap: Global, line: &[u8]) -> Result<Option<Call>, AllocError>
     Ok(from_hex(heap, hex)?.map(Call::Read))
 }
 
-// The cell of a word.
-fn parse_cell(heap: Global, word: &[u8]) -> Result<Option<[u8; CELL]>, AllocError>
+// The cell of a word: 128 hex digits.
+pub fn read_cell(heap: Global, word: &[u8]) -> Result<Option<[u8; CELL]>, AllocError>
     ensures { IfOk result (λ o. o ≡ cell_word word.now) }
 {
     Ok(from_hex(heap, word)?.and_then(|bytes| sized(bytes.as_slice())))
@@ -93,7 +93,7 @@ fn parse_write(heap: Global, line: &[u8]) -> Result<Option<Call>, AllocError>
     let (block, rest) = split_word(line);
     let (number, rest) = split_word(rest);
     let (cell, rest) = split_word(rest);
-    let cell = parse_cell(heap, cell)?;
+    let cell = read_cell(heap, cell)?;
     Ok(write_call(
         read_number(block),
         read_number(number),

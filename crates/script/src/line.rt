@@ -3,7 +3,7 @@ ghost use Rattle.std.specs.Prelude.{◌≡◌, not, take, Some, is_some, IfOk, s
 ghost use Rattle.std.specs.Fmt.{WritesOnOk};
 ghost use Rattle.std.specs.Option.{option_map};
 ghost use Rattle.script.specs.Words.{passed_over};
-ghost use Rattle.script.specs.Lines.{plain, escaped, dots, shown, not_understood, line_answer};
+ghost use Rattle.script.specs.Lines.{plain, escaped, all_escaped, dots, shown, not_understood, line_answer};
 
 use crate::answer::{perform, print};
 use crate::call::parse;
@@ -45,7 +45,22 @@ fn cut(line: &[u8]) -> (&[u8], &'static str)
     (front, "...")
 }
 
-// A line that prints as text, however it is: no more than its front.
+// Bytes that print as text, whatever they are.
+#[derive(Clone, Copy, PartialEq, Eq, Debug)]
+pub struct Escaped<'a>(pub &'a [u8]);
+
+impl fmt::Display for Escaped<'_> {
+    ghost output = { λ e. Some (all_escaped e.0.now) };
+
+    fn fmt<W: fmt::Write>(&self, f: &mut fmt::Formatter<W>) -> fmt::Result {
+        for byte in self.0 {
+            write_shown(f, *byte)?;
+        }
+        Ok(())
+    }
+}
+
+// A line that prints as text: no more than its front.
 #[derive(Clone, Copy)]
 struct Shown<'a>(&'a [u8]);
 
@@ -54,10 +69,7 @@ impl fmt::Display for Shown<'_> {
 
     fn fmt<W: fmt::Write>(&self, f: &mut fmt::Formatter<W>) -> fmt::Result {
         let (front, dots) = cut(self.0);
-        for byte in front {
-            write_shown(f, *byte)?;
-        }
-        f.write_str(dots)
+        write!(f, "{}{dots}", Escaped(front))
     }
 }
 

@@ -1,7 +1,7 @@
 // The words of a line.
-ghost use Rattle.std.specs.Prelude.{◌≡◌, position};
+ghost use Rattle.std.specs.Prelude.{◌≡◌, ◌==◌, position};
 ghost use Rattle.std.specs.Option.{option_map};
-ghost use Rattle.script.specs.Words.{separates, in_word, skip, first_word, after_word, blank, only_word, passed_over};
+ghost use Rattle.script.specs.Words.{separates, in_word, skip, first_word, after_word, blank, only_word, passed_over, cut_at};
 
 // Whether a byte separates words: a space, a tab or a carriage return.
 fn separates(byte: u8) -> bool
@@ -56,8 +56,23 @@ pub fn only_word(line: &[u8]) -> Option<&[u8]>
 }
 
 // Whether a line is a comment or blank.
-pub(crate) fn passed_over(line: &[u8]) -> bool
+pub fn passed_over(line: &[u8]) -> bool
     ensures { result ≡ passed_over line.now }
 {
     matches!(line, [b'#', ..]) || is_blank(line)
+}
+
+// Where the first such byte stands.
+fn place_of(text: &[u8], byte: u8) -> Option<usize>
+    ensures { result ≡ position (λ b. b == byte) text.now }
+{
+    text.iter().position(|b| *b == byte)
+}
+
+// What stands before the first such byte, and what behind it.
+pub fn split_at_byte(text: &[u8], byte: u8) -> Option<(&[u8], &[u8])>
+    ensures { option_map (λ p. (p.0.now, p.1.now)) result ≡ cut_at byte text.now }
+{
+    let i = place_of(text, byte)?;
+    Some((&text[..i], &text[i + 1..]))
 }

@@ -1,0 +1,4 @@
+pub mod Beginnings
+pub mod Cutting
+pub mod Marks
+pub mod Trims
