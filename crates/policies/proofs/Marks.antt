@@ -1,5 +1,5 @@
 -- A number put into a set, or taken out; the lowest one.
-use Rattle.std.proofs.Common.{◌≡◌, ℕ, zero, suc, ◌+◌, ◌/◌, ◌%◌, ◌<◌, ◌≤◌, min, Bool, true, false, ◌&&◌, ◌||◌, eqb, ◌⊎◌, List, [], ◌∷◌, length, get_or, set, replicate, Some, None, Option, sym, refl, ap, ◌∙◌, ap₂, inl, inr, ⊎_elim, arith, length-set, get_or-set_other, get_or-set_same}
+use Rattle.std.proofs.Common.{MatchBool, ◌≡◌, ℕ, zero, suc, ◌+◌, ◌/◌, ◌%◌, ◌<◌, ◌≤◌, min, Bool, true, false, cond, ◌&&◌, ◌||◌, eqb, ◌⊎◌, List, [], ◌∷◌, length, get_or, set, replicate, Some, None, Option, sym, refl, ap, ◌∙◌, ap₂, inl, inr, ⊎_elim, arith, length-set, get_or-set_other, get_or-set_same}
 use Rattle.std.proofs.lemmas.List.FromFn.{get_or-map-range_with_len, length-map-range_with_len}
 use Rattle.std.proofs.lemmas.List.{same_lists, ext_get_or, get_or_past, set_past, get_or-replicate, length-replicate}
 use Rattle.std.proofs.lemmas.Bool.{cases_eq, cases_lt, cases_order, eq-eqb, ne_eqb, both_ways, and_left, and_right}
@@ -163,3 +163,13 @@ pub marked : (s : Columns) (k : ℕ) (ws' : List ℕ) → k < s.width → Put k 
 marked s k ws' h p =
     let l : k / 64 < length s.words = omega (arith, s.narrow, s.eight, h) in
     marks_changed s.words ws' k true (in_at s.words ws' k (p.within l)) (in_other s.words ws' k (p.within l)) s.width
+
+-- c put in or not
+module _ (s : Columns) (c : ℕ) where
+  pub put_if_shown : (on : Bool) (ws : List ℕ) → c < s.width → MatchBool on (Put c s.words ws) (ws ≡ s.words) → marks_of s.width ws ≡ cond on (set (shown s) c true) (shown s)
+  put_if_shown true ws l p = marked s c ws l p
+  put_if_shown false ws l p = ap (marks_of s.width) p
+
+  pub put_if_past : (on : Bool) → s.width ≤ c → shown s ≡ cond on (set (shown s) c true) (shown s)
+  put_if_past true l = sym (shown_past s c true l)
+  put_if_past false l = refl
