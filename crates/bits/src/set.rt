@@ -22,29 +22,28 @@ pub fn has(words: &[u64], c: usize) -> bool
     words.get(c / 64).is_some_and(|word| bit_at(*word, c % 64))
 }
 
-// Puts c in; nothing past the end of the words.
+// Puts c in; nothing past the end of the words. (`get_mut` of a slice says nothing of what the slice ends as.)
 pub fn put(words: &mut [u64], c: usize)
     ensures { Put c words.old words.new }
 {
-    put_if(words, c, true);
-}
-
-// Puts c in if `on` says so; nothing past the end of the words. Without a branch on it. (`get_mut` of a slice says nothing of
-// what the slice ends as.)
-pub fn put_if(words: &mut [u64], c: usize, on: bool)
-    ensures { MatchBool on (Put c words.old words.new) (words.new ≡ words.old) }
-{
     if c / 64 < words.len() {
-        words[c / 64] |= u64::from(on) << (c % 64);
+        words[c / 64] |= 1 << (c % 64);
     }
 }
 
-// Takes c out where it is in, and puts it in where it is not; nothing past the end of the words. By index, as `put_if`.
+// Takes c out where it is in, and puts it in where it is not; nothing past the end of the words.
 pub fn flip(words: &mut [u64], c: usize)
     ensures { Flipped c words.old words.new }
 {
+    flip_if(words, c, true);
+}
+
+// The same if `on` says so, without a branch on it. By index, as `put`.
+pub fn flip_if(words: &mut [u64], c: usize, on: bool)
+    ensures { MatchBool on (Flipped c words.old words.new) (words.new ≡ words.old) }
+{
     if c / 64 < words.len() {
-        words[c / 64] ^= 1 << (c % 64);
+        words[c / 64] ^= u64::from(on) << (c % 64);
     }
 }
 

@@ -1,5 +1,5 @@
 // What a set of columns is asked, and how it changes.
-ghost use Rattle.std.specs.Prelude.{◌≡◌, ℕ, ◌<◌, ◌≤◌, min, true, false, cond, replicate, slice_set};
+ghost use Rattle.std.specs.Prelude.{◌≡◌, ℕ, ◌<◌, ◌≤◌, min, true, false, replicate, slice_set};
 ghost use Rattle.bits.specs.Sets.{holds};
 ghost use Rattle.method.specs.Sets.{has, meet, lowest};
 ghost use Rattle.policies.specs.Shown.{marks_of, shown};
@@ -40,24 +40,23 @@ impl Columns {
     pub fn put(&mut self, c: usize)
         ensures { shown self.new ≡ slice_set (shown self.old) c true }
     {
-        self.put_if(c, true);
-    }
-
-    // Puts c in if `on` says so and it lies below the width; without a branch on `on`.
-    pub fn put_if(&mut self, c: usize, on: bool)
-        ensures { shown self.new ≡ cond on (slice_set (shown self.old) c true) (shown self.old) }
-    {
-        if c < self.width {
-            bits::put_if(&mut self.words, c, on);
-        }
+        self.turn(c, true);
     }
 
     // Takes c out.
     pub fn leave(&mut self, c: usize)
         ensures { shown self.new ≡ slice_set (shown self.old) c false }
     {
-        if self.has(c) {
-            bits::flip(&mut self.words, c);
+        self.turn(c, false);
+    }
+
+    // Puts c in or takes it out, as `on` says, if it lies below the width; without a branch on that.
+    pub fn turn(&mut self, c: usize, on: bool)
+        ensures { shown self.new ≡ slice_set (shown self.old) c on }
+    {
+        if c < self.width {
+            bits::put(&mut self.words, c);
+            bits::flip_if(&mut self.words, c, !on);
         }
     }
 

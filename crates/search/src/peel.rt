@@ -25,11 +25,8 @@ impl Tally {
         ensures ready { shown self.new.ready ≡ slice_set (shown self.old.ready) q (has (shown unused.now) q && slice_index self.old.counts q - 1 == 1) }
     {
         self.counts[q] -= 1;
-        if unused.has(q) && self.counts[q] == 1 {
-            self.ready.put(q);
-        } else {
-            self.ready.leave(q);
-        }
+        let ready = unused.has(q) && self.counts[q] == 1;
+        self.ready.turn(q, ready);
     }
 
     // Each of these rows has one active column fewer.
