@@ -1,9 +1,11 @@
 -- What words hold: past their end, after a number is put in or turned, and of two sets word by word.
-use Rattle.std.proofs.Common.{◌≡◌, ℕ, ◌*◌, ◌/◌, ◌%◌, ◌^◌, ◌<◌, ◌≤◌, Bool, true, false, ◌&&◌, ◌||◌, eqb, ◌⊎◌, List, length, get_or, set, sym, refl, ap, ◌∙◌, inl, inr, ⊎_elim, arith, get_or-set_other, get_or-set_same}
+use Rattle.std.proofs.Common.{MatchBool, ◌≡◌, ℕ, ◌*◌, ◌/◌, ◌%◌, ◌^◌, ◌<◌, ◌≤◌, Bool, true, false, ◌&&◌, ◌||◌, eqb, ◌⊎◌, List, length, get_or, set, sym, refl, ap, ◌∙◌, subst, inl, inr, ⊎_elim, arith, get_or-set_other, get_or-set_same}
 use lib.Bits.{bit_xor, bit_and, bit_or}
+use mir.Val.{bool_byte}
+use Rattle.std.specs.Int.Bits.{xor_zero_r}
 use lib.Lanes.{zip2}
 use Rattle.std.proofs.lemmas.Simd.{get_or-zip2, length-zip2}
-use Rattle.std.proofs.lemmas.List.{get_or_past}
+use Rattle.std.proofs.lemmas.List.{get_or_past, set-get_or}
 use Rattle.std.proofs.lemmas.Nat.{pow_below}
 use Rattle.std.proofs.lemmas.Bool.{cases_eq, cases_lt, both_ways, eq-eqb, ne_eqb}
 use Rattle.bits.specs.Sets.{bit, holds, differ, xors, ands, Put, Flipped}
@@ -65,8 +67,17 @@ module _ (ws : List ℕ) (c : ℕ) (h : c / 64 < length ws) where
   pub put_word : Put c ws (set ws (c / 64) (bit_or (get_or ws (c / 64) 0) (1 * 2 ^ (c % 64) % 2 ^ 64)))
   put_word = rw one (record { within = λ l d. holds_put ws c d l; past = λ l. absurd (omega arith) })
 
-  pub flipped_word : Flipped c ws (set ws (c / 64) (bit_xor (get_or ws (c / 64) 0) (1 * 2 ^ (c % 64) % 2 ^ 64)))
+  flipped_word : Flipped c ws (set ws (c / 64) (bit_xor (get_or ws (c / 64) 0) (1 * 2 ^ (c % 64) % 2 ^ 64)))
   flipped_word = rw one (record { within = λ l d. holds_flipped ws c d l; past = λ l. absurd (omega arith) })
+
+  pub flip_if_word : (on : Bool) (b : ℕ) → b ≡ bool_byte on
+      → MatchBool on (Flipped c ws (set ws (c / 64) (bit_xor (get_or ws (c / 64) 0) (b * 2 ^ (c % 64) % 2 ^ 64))))
+      (set ws (c / 64) (bit_xor (get_or ws (c / 64) 0) (b * 2 ^ (c % 64) % 2 ^ 64)) ≡ ws)
+  flip_if_word true b e = subst (λ x. Flipped c ws (set ws (c / 64) (bit_xor (get_or ws (c / 64) 0) (x * 2 ^ (c % 64) % 2 ^ 64)))) (sym e) flipped_word
+  flip_if_word false b e =
+      let zero : 0 * 2 ^ (c % 64) % 2 ^ 64 ≡ 0 = omega arith in
+      let nothing : b * 2 ^ (c % 64) % 2 ^ 64 ≡ 0 = ap (λ x. x * 2 ^ (c % 64) % 2 ^ 64) e ∙ zero in
+      ap (λ x. set ws (c / 64) (bit_xor (get_or ws (c / 64) 0) x)) nothing ∙ ap (set ws (c / 64)) (xor_zero_r (get_or ws (c / 64) 0)) ∙ set-get_or ws (c / 64) 0
 
 -- of two sets of as many words
 module _ (xs ys : List ℕ) (same : length xs ≡ length ys) (c : ℕ) where

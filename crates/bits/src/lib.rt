@@ -11,4 +11,4 @@ mod tests;
 pub use column::holders;
 pub use find::{alone, count, least, next};
 pub use row::{add_line, add_row, line_at, put_line, row_has, wipe};
-pub use set::{Set, add, flip, has, put, shared};
+pub use set::{Set, add, flip, flip_if, has, put, shared};

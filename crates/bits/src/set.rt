@@ -1,5 +1,5 @@
 // Sets: what they hold, putting in and taking out, sums and what is shared.
-ghost use Rattle.std.specs.Prelude.{◌≡◌, ℕ, ◌/◌, ◌%◌, ◌^◌, ◌<◌};
+ghost use Rattle.std.specs.Prelude.{◌≡◌, ℕ, ◌/◌, ◌%◌, ◌^◌, ◌<◌, MatchBool};
 ghost use Rattle.bits.specs.Sets.{bit, holds, xors, ands, Put, Flipped};
 
 use std::simd::prelude::*;
@@ -31,12 +31,19 @@ pub fn put(words: &mut [u64], c: usize)
     }
 }
 
-// Takes c out where it is in, and puts it in where it is not; nothing past the end of the words. By index, as `put`.
+// Takes c out where it is in, and puts it in where it is not; nothing past the end of the words.
 pub fn flip(words: &mut [u64], c: usize)
     ensures { Flipped c words.old words.new }
 {
+    flip_if(words, c, true);
+}
+
+// The same if `on` says so, without a branch on it. By index, as `put`.
+pub fn flip_if(words: &mut [u64], c: usize, on: bool)
+    ensures { MatchBool on (Flipped c words.old words.new) (words.new ≡ words.old) }
+{
     if c / 64 < words.len() {
-        words[c / 64] ^= 1 << (c % 64);
+        words[c / 64] ^= u64::from(on) << (c % 64);
     }
 }
 

@@ -1,9 +1,9 @@
 -- A number put into a set, or taken out; the lowest one.
-use Rattle.std.proofs.Common.{◌≡◌, ℕ, zero, suc, ◌+◌, ◌/◌, ◌%◌, ◌<◌, ◌≤◌, min, Bool, true, false, ◌&&◌, ◌||◌, eqb, ◌⊎◌, List, [], ◌∷◌, length, get_or, set, replicate, Some, None, Option, sym, refl, ap, ◌∙◌, ap₂, inl, inr, ⊎_elim, arith, length-set, get_or-set_other, get_or-set_same}
+use Rattle.std.proofs.Common.{MatchBool, ◌≡◌, ℕ, zero, suc, ◌+◌, ◌/◌, ◌%◌, ◌<◌, ◌≤◌, min, Bool, true, false, not, ◌&&◌, ◌||◌, eqb, ◌⊎◌, List, [], ◌∷◌, length, get_or, set, replicate, Some, None, Option, sym, refl, ap, ◌∙◌, ap₂, inl, inr, ⊎_elim, arith, length-set, get_or-set_other, get_or-set_same}
 use Rattle.std.proofs.lemmas.List.FromFn.{get_or-map-range_with_len, length-map-range_with_len}
 use Rattle.std.proofs.lemmas.List.{same_lists, ext_get_or, get_or_past, set_past, get_or-replicate, length-replicate}
 use Rattle.std.proofs.lemmas.Bool.{cases_eq, cases_lt, cases_order, eq-eqb, ne_eqb, both_ways, and_left, and_right}
-use Rattle.bits.specs.Sets.{holds, differ, bit, ands, Put, Least}
+use Rattle.bits.specs.Sets.{holds, differ, bit, ands, Put, Flipped, Least}
 use Rattle.bits.proofs.Held.{differ_none, holds_ands}
 use Rattle.bits.proofs.Found.{least_like}
 use Rattle.bits.proofs.Word.{bit_zero}
@@ -51,7 +51,7 @@ module _ (ws ws' : List ℕ) (c : ℕ) (b : Bool) (here : holds ws' c ≡ b) (ot
       ∙ sym (ap (λ i. get_or (set (marks_of n ws) c b) i d) e ∙ get_or-set_same (marks_of n ws) c b d (omega (arith, length_marks n ws)))
   changed_place n k d l (inr m) = other k m ∙ sym (get_or-set_other (marks_of n ws) c k b d m ∙ marks_at n ws k d l)
 
-  pub marks_changed : (n : ℕ) → marks_of n ws' ≡ set (marks_of n ws) c b
+  marks_changed : (n : ℕ) → marks_of n ws' ≡ set (marks_of n ws) c b
   marks_changed n =
       same_lists _ _ (length_marks n ws' ∙ sym (length-set (marks_of n ws) c b ∙ length_marks n ws)) (λ k d h.
       let l : k < n = omega (arith, length_marks n ws') in
@@ -59,10 +59,10 @@ module _ (ws ws' : List ℕ) (c : ℕ) (b : Bool) (here : holds ws' c ≡ b) (ot
 
 -- c taken out of words that hold it
 module _ (ws ws' : List ℕ) (c : ℕ) (flipped : (d : ℕ) → holds ws' d ≡ differ (holds ws d) (eqb d c)) where
-  pub out_at : holds ws c ≡ true → holds ws' c ≡ false
+  out_at : holds ws c ≡ true → holds ws' c ≡ false
   out_at was = flipped c ∙ ap (differ (holds ws c)) (eq-eqb c c refl) ∙ ap (λ b. differ b true) was
 
-  pub out_other : (d : ℕ) → (d ≡ c → ⊥) → holds ws' d ≡ holds ws d
+  out_other : (d : ℕ) → (d ≡ c → ⊥) → holds ws' d ≡ holds ws d
   out_other d n = flipped d ∙ ap (differ (holds ws d)) (ne_eqb d c n) ∙ differ_none (holds ws d)
 
 or_true : (b : Bool) → (b || true) ≡ true
@@ -75,10 +75,10 @@ or_false false = refl
 
 -- c put into words
 module _ (ws ws' : List ℕ) (c : ℕ) (put : (d : ℕ) → holds ws' d ≡ (holds ws d || eqb d c)) where
-  pub in_at : holds ws' c ≡ true
+  in_at : holds ws' c ≡ true
   in_at = put c ∙ ap (λ b. holds ws c || b) (eq-eqb c c refl) ∙ or_true (holds ws c)
 
-  pub in_other : (d : ℕ) → (d ≡ c → ⊥) → holds ws' d ≡ holds ws d
+  in_other : (d : ℕ) → (d ≡ c → ⊥) → holds ws' d ≡ holds ws d
   in_other d n = put d ∙ ap (λ b. holds ws d || b) (ne_eqb d c n) ∙ or_false (holds ws d)
 
 -- words of zeros hold nothing
@@ -158,8 +158,16 @@ pub lowest_marked : (n : ℕ) (ws : List ℕ) → ((c : ℕ) → n ≤ c → hol
 lowest_marked n ws within r h =
     least_same (has (marks_of n ws)) r (lowest (λ b. b) (marks_of n ws)) (least_like (has (marks_of n ws)) (holds ws) (has_marks_of n ws within) r h) (lowest_least (marks_of n ws))
 
--- a number below the width put into the words of a set
-pub marked : (s : Columns) (k : ℕ) (ws' : List ℕ) → k < s.width → Put k s.words ws' → marks_of s.width ws' ≡ set (shown s) k true
-marked s k ws' h p =
-    let l : k / 64 < length s.words = omega (arith, s.narrow, s.eight, h) in
-    marks_changed s.words ws' k true (in_at s.words ws' k (p.within l)) (in_other s.words ws' k (p.within l)) s.width
+-- a number below the width put in, and taken out again or not
+module _ (s : Columns) (c : ℕ) (ws ws' : List ℕ) (low : c < s.width) (same : length ws ≡ length s.words) (put : Put c s.words ws) where
+  within : c / 64 < length s.words
+  within = omega (arith, s.narrow, s.eight)
+
+  pub turned_shown : (on : Bool) → MatchBool (not on) (Flipped c ws ws') (ws' ≡ ws) → marks_of s.width ws' ≡ set (shown s) c on
+  turned_shown true e =
+      marks_changed s.words ws' c true (ap (λ x. holds x c) e ∙ in_at s.words ws c (put.within within)) (λ d n. ap (λ x. holds x d) e ∙ in_other s.words ws c (put.within within) d n)
+      s.width
+  turned_shown false f =
+      let out = f.within (omega (arith, within)) in
+      marks_changed s.words ws' c false (out_at ws ws' c out (in_at s.words ws c (put.within within))) (λ d n. out_other ws ws' c out d n ∙ in_other s.words ws c (put.within within) d n)
+      s.width

@@ -40,17 +40,23 @@ impl Columns {
     pub fn put(&mut self, c: usize)
         ensures { shown self.new ≡ slice_set (shown self.old) c true }
     {
-        if c < self.width {
-            bits::put(&mut self.words, c);
-        }
+        self.turn(c, true);
     }
 
     // Takes c out.
     pub fn leave(&mut self, c: usize)
         ensures { shown self.new ≡ slice_set (shown self.old) c false }
     {
-        if self.has(c) {
-            bits::flip(&mut self.words, c);
+        self.turn(c, false);
+    }
+
+    // Puts c in or takes it out, as `on` says, if it lies below the width; without a branch on that.
+    pub fn turn(&mut self, c: usize, on: bool)
+        ensures { shown self.new ≡ slice_set (shown self.old) c on }
+    {
+        if c < self.width {
+            bits::put(&mut self.words, c);
+            bits::flip_if(&mut self.words, c, !on);
         }
     }
 

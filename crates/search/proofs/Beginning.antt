@@ -15,9 +15,11 @@ use Rattle.policies.specs.Shown.{shown}
 use Rattle.policies.proofs.Marks.{length_shown}
 use Rattle.search.specs.declared.elimination.Elimination.{Elimination}
 use Rattle.search.specs.Loads.{Loaded, Begun, single}
+use Rattle.search.specs.Rows.{KeptBelow}
 use Rattle.search.specs.Searches.{marks_in as places_in}
 use Rattle.search.specs.Steps.{Going}
 use Rattle.search.specs.View.{used_if, lines, rows_of, bare}
+use Rattle.search.proofs.Keeping.{kept_whole}
 use Rattle.search.proofs.Lines.{length_lines, line_at, unused_at}
 use Rattle.search.proofs.Loading.{count_marks}
 use Rattle.search.proofs.Tallies.{count_same}
@@ -76,10 +78,11 @@ module _ {S : Type 0} (K : Kind S) (k : Matrix) (ok : Lawful k) (received : List
       ∙ sym (ap₂ (λ a b. count (meet a b)) cols begun.active ∙ count_same _ _ (meet_marked k.width miss xs)
       ∙ count_marks k.width (marked miss xs) (marked_lawful k.width miss xs (row_lawful k ok q)))
 
-  pub begun_going : Going K e
-  begun_going = record {
+  pub begun_going : KeptBelow e.kept.now e.words.now (length e.sides.now) → Going K e
+  begun_going below = record {
     room = record { added = omega (arith, begun.additions, few_active); unfreed = ap length begun.free };
     tallied = record { counts = λ q h. counts_are q (omega (arith, long)); readies = readies };
+    kept = kept_whole (shown e.active) below;
   }
     where
       few_active : count (shown e.active) ≤ 512

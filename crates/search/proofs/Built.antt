@@ -1,5 +1,5 @@
 -- A set built by a loop: each number below n is put in where it passes a test.
-use Rattle.std.proofs.Common.{◌≡◌, ℕ, ◌+◌, ◌<◌, ◌≤◌, min, Bool, true, false, not, List, map, length, take, set, replicate, sym, ap, ◌∙◌, ⊎_elim, arith, length-set, get_or-set_other, get_or-set_same, below_more}
+use Rattle.std.proofs.Common.{◌≡◌, ℕ, ◌+◌, ◌<◌, ◌≤◌, min, Bool, false, not, List, map, length, take, set, replicate, sym, ap, ◌∙◌, ⊎_elim, arith, length-set, get_or-set_other, get_or-set_same, below_more}
 use lib.ListN.{length-map}
 use Rattle.std.specs.List.{range_with_len}
 use Rattle.std.proofs.lemmas.List.{ext_get_or, get_or-replicate, length-replicate, get_or_past, get_or-take, length-take-le}
@@ -25,26 +25,19 @@ built_none n t s l e =
     let z : s ≡ replicate n false = e ∙ ap (λ k. replicate k false) (omega arith) in
     rw z (record { long = length-replicate n false; done = λ k h. absurd (omega arith); rest = λ k h. has_falses n k })
 
-module _ {n : ℕ} {t : ℕ → Bool} {s : List Bool} {i : ℕ} (b : Built n t s i) where
-  pub built_skip : t i ≡ false → (s' : List Bool) → s' ≡ s → Built n t s' (i + 1)
-  built_skip e s' z = rw z (record {
-    long = b.long;
-    done = below_more (λ k. has s k ≡ t k) i b.done (b.rest i (omega arith) ∙ sym e);
-    rest = λ k h. b.rest k (omega arith);
-  })
-
-  pub built_put : i < n → t i ≡ true → (s' : List Bool) → s' ≡ set s i true → Built n t s' (i + 1)
-  built_put l e s' z = rw z (record {
-    long = length-set s i true ∙ b.long;
-    done = below_more (λ k. has (set s i true) k ≡ t k) i
-        (λ k h. get_or-set_other s i k true false (omega arith) ∙ b.done k h) (get_or-set_same s i true false (omega (arith, b.long)) ∙ sym e);
-    rest = λ k h. get_or-set_other s i k true false (omega arith) ∙ b.rest k (omega arith);
+module _ {n : ℕ} {t : ℕ → Bool} {s : List Bool} {i : ℕ} (so : Built n t s i) where
+  pub built_more : i < n → (b : Bool) → t i ≡ b → (s' : List Bool) → s' ≡ set s i b → Built n t s' (i + 1)
+  built_more l b e s' z = rw z (record {
+    long = length-set s i b ∙ so.long;
+    done = below_more (λ k. has (set s i b) k ≡ t k) i
+        (λ k h. get_or-set_other s i k b false (omega arith) ∙ so.done k h) (get_or-set_same s i b false (omega (arith, so.long)) ∙ sym e);
+    rest = λ k h. get_or-set_other s i k b false (omega arith) ∙ so.rest k (omega arith);
   })
 
   pub built_all : n ≤ i → s ≡ map t (range_with_len 0 n)
   built_all l =
-      ext_get_or false s (map t (range_with_len 0 n)) (b.long ∙ sym (length-map-range_with_len t 0 n))
-      (λ k h. b.done k (omega (arith, b.long)) ∙ sym (get_or-map-range_with_len t 0 n k k false (omega (arith, b.long)) (omega arith)))
+      ext_get_or false s (map t (range_with_len 0 n)) (so.long ∙ sym (length-map-range_with_len t 0 n))
+      (λ k h. so.done k (omega (arith, so.long)) ∙ sym (get_or-map-range_with_len t 0 n k k false (omega (arith, so.long)) (omega arith)))
 
 -- the missing places, by a test of each
 abbrev pub lacking : List Bool → ℕ → Bool

@@ -6,6 +6,7 @@ pub mod Wiped  -- a list whose first elements become zero
 pub mod Lines  -- the rows that words and right sides stand for
 pub mod Tallies  -- the tally of the rows, where a column leaves the active ones
 pub mod Rooms  -- the room of a search, where a column leaves the active ones
+pub mod Keeping  -- the rows kept for each column from loading on
 pub mod Stepping  -- one step, and steps to the end
 pub mod Lowest  -- the lowest place that passes a test, as a loop finds it
 pub mod Placing  -- the row used for each column

@@ -4,7 +4,8 @@ use Rattle.std.proofs.lemmas.List.{ext_get_or}
 use Rattle.std.proofs.lemmas.Bool.{cases_eq, eq-eqb, ne_eqb}
 use Rattle.bits.specs.Sets.{holds, Put, row, put_row}
 use Rattle.bits.proofs.Rows.{row_put_same, row_put_other}
-use Rattle.symbols.specs.Kinds.{Kind}
+use Rattle.symbols.specs.Kinds.{Kind, SumLaws}
+use Rattle.symbols.specs.Sums.{sum_at}
 use Rattle.codes.specs.Matrix.{Matrix, Lawful, row_at, member}
 use Rattle.codes.specs.MatrixLaws.{row_lawful}
 use Rattle.codes.specs.Matrix.{Row as LawfulRow}
@@ -60,40 +61,46 @@ row_short n xs h = omega (arith, count_marks n xs h, count_le (marks n xs), leng
 pub row_few : (k : Matrix) → Lawful k → (r : ℕ) → length (row_at k r) ≤ 512
 row_few k ok r = omega (arith, row_short k.width (row_at k r) (row_lawful k ok r), ok.few_columns)
 
--- these columns are read: those received, and l missing
-pub record Reading (got : List Bool) (cs : List ℕ) (line heard : List ℕ) (l : ℕ) : Type 0 where
+-- a sum with one place more
+pub sum_at_push : {S : Type 0} {z : S} {sum : S → S → S} → SumLaws z sum → (syms : List S) (xs : List ℕ) (c : ℕ)
+    → sum_at z sum syms (xs ++ c ∷ []) ≡ sum (sum_at z sum syms xs) (get_or syms c z)
+sum_at_push laws syms [] c = laws.commutative _ _
+sum_at_push {z = z} {sum = sum} laws syms (x ∷ xs) c = ap (sum (get_or syms x z)) (sum_at_push laws syms xs c) ∙ sym (laws.associative _ _ _)
+
+-- these columns are read: the sum of those received, and l missing
+pub record Reading {S : Type 0} (K : Kind S) (syms : List S) (got : List Bool) (cs line : List ℕ) (side : S) (l : ℕ) : Type 0 where
   pub eight : length line ≡ 8
   pub held : (d : ℕ) → holds line d ≡ member d (marked (missing got) cs)
-  pub kept : heard ≡ marked got cs
+  pub right : side ≡ sum_at K.zero K.sum syms (marked got cs)
   pub lost : l ≡ length (marked (missing got) cs)
-  pub few : length heard + l ≤ length cs
+  pub few : l ≤ length cs
 
-module _ (got : List Bool) (cs line heard : List ℕ) (l c : ℕ) (so : Reading got cs line heard l) (low : c < length got) where
+module _ {S : Type 0} (K : Kind S) (syms : List S) (got : List Bool) (cs line : List ℕ) (side : S) (l c : ℕ) (so : Reading K syms got cs line side l) (low : c < length got) where
   more : (s : List Bool) → has s c ≡ true → marked s (cs ++ c ∷ []) ≡ marked s cs ++ c ∷ []
   more s e = marked_push s cs c ∙ ap (λ b. marked s cs ++ kept_if b c []) e
 
   less : (s : List Bool) → has s c ≡ false → marked s (cs ++ c ∷ []) ≡ marked s cs
   less s e = marked_push s cs c ∙ ap (λ b. marked s cs ++ kept_if b c []) e ∙ append-nil (marked s cs)
 
-  pub reading_got : has got c ≡ true → (heard' : List ℕ) → heard' ≡ heard ++ c ∷ [] → Reading got (cs ++ c ∷ []) line heard' l
-  reading_got e heard' z =
+  pub reading_got : SumLaws K.zero K.sum → has got c ≡ true → (side' : S) → side' ≡ K.sum side (get_or syms c K.zero) → Reading K syms got (cs ++ c ∷ []) line side' l
+  reading_got laws e side' z =
       let off : has (missing got) c ≡ false = has_missing got c low ∙ ap not e in
       record {
         eight = so.eight;
         held = λ d. so.held d ∙ ap (member d) (sym (less (missing got) off));
-        kept = z ∙ ap (λ xs. xs ++ c ∷ []) so.kept ∙ sym (more got e);
+        right = z ∙ ap (λ x. K.sum x (get_or syms c K.zero)) so.right ∙ sym (ap (sum_at K.zero K.sum syms) (more got e) ∙ sum_at_push laws syms (marked got cs) c);
         lost = so.lost ∙ ap length (sym (less (missing got) off));
-        few = omega (arith, so.few, ap length z, length-append heard (c ∷ []), length-append cs (c ∷ []));
+        few = omega (arith, so.few, length-append cs (c ∷ []));
       }
 
-  pub reading_lost : has got c ≡ false → (line' : List ℕ) → length line' ≡ length line → Put c line line' → c < 512 → Reading got (cs ++ c ∷ []) line' heard (l + 1)
+  pub reading_lost : has got c ≡ false → (line' : List ℕ) → length line' ≡ length line → Put c line line' → c < 512 → Reading K syms got (cs ++ c ∷ []) line' side (l + 1)
   reading_lost e line' same put narrow =
       let on : has (missing got) c ≡ true = has_missing got c low ∙ ap not e in
       let within : c / 64 < length line = omega (arith, so.eight) in
       record {
         eight = same ∙ so.eight;
         held = λ d. put.within within d ∙ ap₂ ◌||◌ (so.held d) (eqb_turned c d) ∙ sym (ap (member d) (more (missing got) on) ∙ member_push d (marked (missing got) cs) c);
-        kept = so.kept ∙ sym (less got e);
+        right = so.right ∙ ap (sum_at K.zero K.sum syms) (sym (less got e));
         lost = ap (λ n. n + 1) so.lost ∙ sym (ap length (more (missing got) on) ∙ length-append (marked (missing got) cs) (c ∷ []));
         few = omega (arith, so.few, length-append cs (c ∷ []));
       }
@@ -105,8 +112,8 @@ reading_marks n line xs held =
     let l : c < n = omega (arith, length_marks n line) in
     marks_at n line c false l ∙ held c ∙ sym (has_marks n xs c l))
 
-pub reading_moved : {got : List Bool} {cs : List ℕ} {line line' heard heard' : List ℕ} {l l' : ℕ} → line' ≡ line → heard' ≡ heard → l' ≡ l
-    → Reading got cs line heard l → Reading got cs line' heard' l'
+pub reading_moved : {S : Type 0} {K : Kind S} {syms : List S} {got : List Bool} {cs line line' : List ℕ} {side side' : S} {l l' : ℕ} → line' ≡ line → side' ≡ side → l' ≡ l
+    → Reading K syms got cs line side l → Reading K syms got cs line' side' l'
 reading_moved a b e h = rw (a, b, e) h
 
 -- every row loaded

@@ -177,10 +177,8 @@ module _ {S : Type 0} (K : Kind S) where
   pub tallied_moved : {rows rows' : List (Row S)} {active active' : List Bool} {t : Tally} → rows' ≡ rows → active' ≡ active → Tallied K rows active t → Tallied K rows' active' t
   tallied_moved e f h = rw (e, f) h
 
-  -- the tally after row r, ready for c, is used for it
-  module _ (rows : List (Row S)) (active held unused' : List Bool) (r c : ℕ) (t t' : Tally) (ok : Tallied K rows active t) (low : Lowered held unused' t t')
-      (is : Lone K active rows r c) (held_is : (q : ℕ) → q < length rows → has held q ≡ row_holds c (row_of K rows q))
-      (unused_is : (q : ℕ) → q < length rows → unused (row_of K (use_row K r c rows) q) ≡ has unused' q) where
+  -- row r, ready for c, is used for it
+  module _ (rows : List (Row S)) (active : List Bool) (r c : ℕ) (is : Lone K active rows r c) where
     single : count (part rows active r) ≡ 1
     single = eqb-true _ 1 (and_parts (unused (row_of K rows r)) _ (lowest_some (ready active) (blank K) rows r is.row).0).1
 
@@ -190,14 +188,21 @@ module _ {S : Type 0} (K : Kind S) where
     holds_own : row_holds c (row_of K rows r) ≡ true
     holds_own = (and_parts (has (row_of K rows r).cols c) (has active c) (sym (has_meet (row_of K rows r).cols active c) ∙ own)).0
 
+    pub part_lone : (q d : ℕ) → has (part (use_row K r c rows) (set active c false) q) d ≡ has (set (part rows active q) c false) d
+    part_lone q d = part_used rows active r c is.within single own q d
+
+  -- the tally after that
+  module _ (rows : List (Row S)) (active held unused' : List Bool) (r c : ℕ) (t t' : Tally) (ok : Tallied K rows active t) (low : Lowered held unused' t t')
+      (is : Lone K active rows r c) (held_is : (q : ℕ) → q < length rows → has held q ≡ row_holds c (row_of K rows q))
+      (unused_is : (q : ℕ) → q < length rows → unused (row_of K (use_row K r c rows) q) ≡ has unused' q) where
     kept : (q : ℕ) → row_holds c (row_of K rows q) ≡ false → (q ≡ r) ⊎ (q ≡ r → ⊥) → unused (row_of K (use_row K r c rows) q) ≡ unused (row_of K rows q)
-    kept q e (inl z) = absurd (both_ways (row_holds c (row_of K rows q)) e (ap (λ i. row_holds c (row_of K rows i)) z ∙ holds_own))
+    kept q e (inl z) = absurd (both_ways (row_holds c (row_of K rows q)) e (ap (λ i. row_holds c (row_of K rows i)) z ∙ holds_own rows active r c is))
     kept q e (inr ne) = ap unused (use_other K rows r c q ne ∙ ap (λ b. added_if K b (row_of K rows r) (row_of K rows q)) e)
 
     pub tallied_used : Tallied K (use_row K r c rows) (set active c false) t'
     tallied_used =
         tallied_next rows (use_row K r c rows) active held unused' c t t' ok low is.is_active (use_length K rows r c) held_is
-        (λ q l d. part_used rows active r c is.within single own q d) unused_is (λ q l e. kept q e (cases_eq q r))
+        (λ q l d. part_lone rows active r c is q d) unused_is (λ q l e. kept q e (cases_eq q r))
 
 -- of an elimination that peels: the rows that hold an active column
 module _ {S : Type 0} {K : Kind S} {e : Elimination S} (ok : Going K e) (held : Columns) (c : ℕ) (held_is : shown held ≡ map (holding e.words.now c) (range_with_len 0 (length e.sides.now)))

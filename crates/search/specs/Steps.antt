@@ -15,6 +15,7 @@ use Rattle.method.specs.Method.{Row, State, Choice, ready, only_column, row_of, 
 use Rattle.policies.specs.Shown.{shown}
 use Rattle.search.specs.declared.tally.Tally.{Tally}
 use Rattle.search.specs.declared.elimination.Elimination.{Elimination}
+use Rattle.search.specs.Rows.{Kept}
 use Rattle.search.specs.View.{rows_of}
 
 -- the caller's memory is still the same, whatever stands in it
@@ -36,6 +37,7 @@ pub record Tallied {S : Type 0} (K : Kind S) (rows : List (Row S)) (active : Lis
 pub record Going {S : Type 0} (K : Kind S) (e : Elimination S) : Type 0 where
   pub room : Room e
   pub tallied : Tallied K (rows_of K e) (shown e.active) e.tally
+  pub kept : Kept e.kept.now e.words.now (length e.sides.now) (shown e.active)
 
 pub record Lone {S : Type 0} (K : Kind S) (active : List Bool) (rows : List (Row S)) (r c : ℕ) : Type 0 where
   pub row : lowest (ready active) rows ≡ Some r

@@ -3,6 +3,7 @@ ghost use Rattle.std.specs.Prelude.{◌≡◌, ℕ, ◌+◌, ◌*◌, ◌<◌, �
 ghost use Rattle.method.specs.Sets.{count};
 ghost use Rattle.policies.specs.Shown.{shown};
 
+use crate::kept::Kept;
 use crate::tally::Tally;
 use crate::uses::Uses;
 use arrayvec::ArrayVec;
@@ -14,6 +15,7 @@ use policies::Columns;
 pub struct Elimination<'m, S> {
     pub words: &'m mut [u64],
     pub sides: &'m mut [S],
+    pub(crate) kept: &'m Kept,
     pub active: Columns,
     pub uses: Uses,
     pub tally: Tally,
@@ -23,6 +25,7 @@ pub struct Elimination<'m, S> {
     ghost high: { uses.unused.width ≡ length sides.now },
     ghost few: { length sides.now ≤ 256 },
     ghost within: { length words.now ≡ 8 * length sides.now },
+    ghost long: { length kept.now ≡ 2048 },
     ghost room: { length pivots.items + count (shown active) ≤ 512 },
     ghost low: { (i : ℕ) → i < length pivots.items → slice_index pivots.items i < active.width },
 }

@@ -6,6 +6,7 @@ mod answer;
 mod elimination;
 mod found;
 mod heard;
+mod kept;
 mod load;
 mod numbers;
 mod passing;

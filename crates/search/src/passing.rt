@@ -14,9 +14,7 @@ pub(crate) fn passing<F: Fn(usize) -> bool>(n: usize, test: F) -> Columns
     let mut set = Columns::none(n);
     // Over the numbers, since they are what is tested and put in.
     for c in 0..n {
-        if test(c) {
-            set.put(c);
-        }
+        set.turn(c, test(c));
     }
     set
 }

@@ -25,11 +25,8 @@ impl Tally {
         ensures ready { shown self.new.ready ≡ slice_set (shown self.old.ready) q (has (shown unused.now) q && slice_index self.old.counts q - 1 == 1) }
     {
         self.counts[q] -= 1;
-        if unused.has(q) && self.counts[q] == 1 {
-            self.ready.put(q);
-        } else {
-            self.ready.leave(q);
-        }
+        let ready = unused.has(q) && self.counts[q] == 1;
+        self.ready.turn(q, ready);
     }
 
     // Each of these rows has one active column fewer.
@@ -81,6 +78,7 @@ impl<S: Symbol> Elimination<'_, S> {
         requires room { self.old.additions ≤ 1000000000 }
         ensures memory { SameMemory self.old self.new }
         ensures tally { self.new.tally ≡ self.old.tally }
+        ensures kept { self.new.kept ≡ self.old.kept }
         ensures pivots { self.new.pivots ≡ self.old.pivots }
         ensures free { self.new.free ≡ self.old.free }
         ensures few { self.new.additions ≤ self.old.additions + 256 }
@@ -102,7 +100,7 @@ impl<S: Symbol> Elimination<'_, S> {
         ensures going { Going S.Symbol.kind self.new }
         ensures state { bare S.Symbol.kind self.new ≡ spend S.Symbol.kind r c (bare S.Symbol.kind self.old) }
     {
-        let held = self.holders(c);
+        let held = self.active_holders(c);
         self.use_row(&held, r, c);
         let unused = self.uses.unused;
         self.tally.lower(&held, &unused);
@@ -116,7 +114,7 @@ impl<S: Symbol> Elimination<'_, S> {
         ensures going { Going S.Symbol.kind self.new }
         ensures state { bare S.Symbol.kind self.new ≡ named (Some c) tt (bare S.Symbol.kind self.old) }
     {
-        let held = self.holders(c);
+        let held = self.active_holders(c);
         let unused = self.uses.unused;
         self.active.leave(c);
         self.tally.lower(&held, &unused);

@@ -64,7 +64,10 @@ fn run<S: Symbol, C: Code, P: Policy>(
     requires within { length words.old ≡ 8 * length sides.old }
     ensures { Run S.Symbol.kind P.Policy.choice (C.Rows.matrix heard.now.code.now) heard.now.received.now heard.now.table.now policy.old policy.new words.new sides.new result }
 {
-    heard.load(words, sides).solve(heard.code, policy)
+    let mut kept = [0; 2048];
+    heard
+        .load(words, sides, &mut kept)
+        .solve(heard.code, policy)
 }
 
 // Searches the codewords of a code that agree with a table at the places received, with a policy, in working memory of

@@ -32,6 +32,7 @@ impl Symbol for Cell {
         Cell::new(one)
     }
 
+    #[inline(always)]
     fn add(&mut self, other: &Cell) {
         let sum = u8x64::from_array(self.bytes) ^ u8x64::from_array(other.bytes);
         *self = Cell::new(sum.to_array());

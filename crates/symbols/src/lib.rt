@@ -12,5 +12,5 @@ mod tests;
 mod word;
 
 pub use kinds::{Bit, Cell, Dated, Pair, Word};
-pub use sums::sum_at;
+pub use sums::{add_column, sum_at};
 pub use symbol::Symbol;

@@ -18,7 +18,7 @@ pub fn sum_at<S: Symbol>(table: &[S], columns: &[u16]) -> S
 }
 
 // Adds the table's symbol at a column, or nothing past its end.
-fn add_column<S: Symbol>(sum: &mut S, table: &[S], column: usize)
+pub fn add_column<S: Symbol>(sum: &mut S, table: &[S], column: usize)
     ensures { sum.new ≡ S.Symbol.kind.sum sum.old (slice_index_or table.now column S.Symbol.kind.zero) }
 {
     if let Some(x) = table.get(column) {

@@ -1,11 +1,13 @@
-use Rattle.std.proofs.Common.{◌≡◌, ℕ, ◌<◌, length, get_or, sym, ap, ◌∙◌, subst, arith}
+use Rattle.std.proofs.Common.{◌≡◌, ℕ, ◌<◌, false, length, get_or, sym, ap, ◌∙◌, subst, arith}
 use Rattle.method.specs.Sets.{has}
 use Rattle.method.specs.Method.{unused, use_row, row_of}
 use Rattle.policies.specs.Shown.{shown}
 use Rattle.policies.proofs.Marks.{shown_below}
 use Rattle.search.specs.View.{rows_of}
 use Rattle.search.specs.Steps.{Lowered}
-use Rattle.search.proofs.Lines.{length_lines, unused_at, use_length}
+use Rattle.search.specs.Rows.{Kept}
+use Rattle.search.proofs.Keeping.{kept_next, holding_stays}
+use Rattle.search.proofs.Lines.{length_lines, unused_at, use_length, same_width}
 use Rattle.search.proofs.Rooms.{fewer_active}
 use Rattle.search.proofs.Tallies.{held_few, held_ready, held_row, held_some, tallied_used, tallied_moved}
 use Rattle.search.proofs.elimination.Elimination.peel_row.Goals as goal
@@ -20,8 +22,8 @@ use_row-requires-clause-column g c = shown_below c.args.self.now.active c.args.c
 
 pub lower-requires : goal.lower-requires
 lower-requires g c =
-    let held = c.holders-held.result in
-    let is = c.holders-held.ensures in
+    let held = c.active_holders-held.result in
+    let is = c.active_holders-held.ensures in
     let on = c.requires.ready.is_active in
     record {
       few = held_few c.requires.going held c.args.c is on;
@@ -35,7 +37,7 @@ returns-clause-going g c =
     let e' = c.use_row.new.self in
     let K = g.S.Symbol.kind in
     let rows = rows_of K e in
-    let held = c.holders-held.result in
+    let held = c.active_holders-held.result in
     let is = c.use_row.ensures in
     let on = c.requires.ready.is_active in
     let high = length_lines K e'.active.width e'.words.now e'.sides.now e'.uses in
@@ -52,5 +54,9 @@ returns-clause-going g c =
       tallied = tallied_moved K rows_are active_is
           (tallied_used K rows (shown e.active) (shown held) (shown e'.uses.unused) c.args.r c.args.c e.tally c.lower.new.self c.requires.going.tallied
           (subst (λ t. Lowered (shown held) (shown e'.uses.unused) t c.lower.new.self) is.tally c.lower.ensures) c.requires.ready
-          (held_row c.requires.going held c.args.c c.holders-held.ensures on) unuseds);
+          (held_row c.requires.going held c.args.c c.active_holders-held.ensures on) unuseds);
+      kept = subst (λ ks. Kept ks.now e'.words.now (length e'.sides.now) (shown e'.active)) (sym is.kept)
+          (kept_next c.args.c c.requires.going.kept is.memory.high active_is
+          (holding_stays K e.active.width e'.active.width e.words.now e'.words.now e.sides.now e'.sides.now e.uses e'.uses (shown e.active) c.args.r c.args.c c.requires.ready rows_are
+          (same_width e.active e'.active c.args.c false active_is) is.memory.high (λ d h. shown_below e.active d h)));
     }

@@ -16,6 +16,7 @@ invariant_of-self g c =
       high = same_width e.uses.unused c.put.new.self.unused c.args.r false c.put.ensures.unused ∙ e.high;
       few = e.few;
       within = e.within;
+      long = e.long;
       room = omega (arith, e.room, ap count c.leave-2.ensures, clear_le (shown e.active) c.args.c);
       low = λ i l. omega (arith, e.low i l, wide);
     }

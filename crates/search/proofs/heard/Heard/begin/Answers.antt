@@ -14,6 +14,7 @@ invariant_of-result-3 g c =
       high = omega (arith, length_shown all, ap length c.all.ensures, length-replicate (min (length c.args.sides.now) 512) true, c.requires.few);
       few = c.requires.few;
       within = c.requires.within;
+      long = omega arith;
       room = omega (arith, none, count_le (shown active), length_shown active, active.narrow);
       low = λ i l. absurd (omega (arith, none));
     }
