@@ -1,3 +1,4 @@
 pub mod Questions
 pub mod Hearing
 pub mod Fitting
+pub mod Lost

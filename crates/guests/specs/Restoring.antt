@@ -3,7 +3,9 @@
 --   AgreesTo      at each place below i where a byte was heard, this byte
 --   Fits          n bytes whose sum is zero, those heard among them
 --   Settles       just one list of bytes fits what was heard, and it has x at the place asked for
-use Rattle.std.specs.Prelude.{◌≡◌, ℕ, ◌<◌, ◌≤◌, List, length, Some, None, Option, slice_index_or}
+--   sum_heard     the sum of the bytes heard
+--   OnlyLost      a byte was heard at every place but one
+use Rattle.std.specs.Prelude.{◌≡◌, ℕ, ◌<◌, ◌≤◌, true, ◌≢◌, List, map, length, is_some, Some, None, Option, slice_index_or}
 use Rattle.std.specs.List.{slice_get}
 use Rattle.symbols.specs.Sums.{total}
 use Rattle.method.specs.Fillings.{Only}
@@ -23,3 +25,16 @@ pub record Settles (heard : List (Option Byte)) (place : ℕ) (x : Byte) : Type 
   pub only : Only (Fits heard) bytes
   pub few : length heard ≤ 512
   pub there : slice_get bytes place ≡ Some x
+
+abbrev pub or_zero : Option Byte → Byte
+or_zero None = byte_of 0
+or_zero (Some x) = x
+
+abbrev pub sum_heard : List (Option Byte) → Byte
+sum_heard heard = total (byte_of 0) byte_sum (map or_zero heard)
+
+pub record OnlyLost (heard : List (Option Byte)) (place : ℕ) : Type 0 where
+  pub few : length heard ≤ 512
+  pub there : place < length heard
+  pub lost : slice_index_or heard place None ≡ None
+  pub others : (c : ℕ) → c < length heard → c ≢ place → is_some (slice_index_or heard c None) ≡ true

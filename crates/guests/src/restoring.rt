@@ -4,7 +4,7 @@ ghost use Rattle.receiver.specs.Stands.{Stands, opening};
 ghost use Rattle.receiver.specs.View.{model};
 ghost use Rattle.guests.specs.Bytes.{byte_kind};
 ghost use Rattle.guests.specs.Hearing.{Heard};
-ghost use Rattle.guests.specs.Restoring.{Settles};
+ghost use Rattle.guests.specs.Restoring.{Settles, sum_heard, OnlyLost};
 ghost use Rattle.guests.specs.declared.byte.Byte.{Byte};
 
 use crate::byte::Byte;
@@ -36,7 +36,8 @@ fn hear(block: &mut Block<'_, Byte>, heard: &[Option<Byte>])
 
 // The byte at a place, where what was heard settles it: heard has a place for each of the n bytes, none where a byte is lost.
 pub fn restored(heard: &[Option<Byte>], place: u32) -> Option<Byte>
-    ensures { (x : Byte) → (result ≡ Some x) ↔ Settles heard.now place x }
+    ensures settled { (x : Byte) → (result ≡ Some x) ↔ Settles heard.now place x }
+    ensures lost { OnlyLost heard.now place → result ≡ Some (sum_heard heard.now) }
 {
     let code = Parity::new(heard.len())?;
     let mut table = [Byte { value: 0 }; MAX_COLUMNS];
