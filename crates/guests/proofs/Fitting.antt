@@ -24,7 +24,7 @@ use Rattle.guests.specs.Restoring.{Fits, Settles}
 use Rattle.guests.specs.Hearing.{Taken, Heard}
 use Rattle.guests.specs.declared.byte.Byte.{Byte}
 
--- a result that has a value, or none
+-- a result that has a permit is that permit
 pub given : (r : Result Permit Unsolved) (q : Permit) → result_ok r ≡ Some q → r ≡ Ok q
 given (Ok p) q e = ap Ok (same_Some p q e)
 given (Err f) q e = absurd (none-some q e)

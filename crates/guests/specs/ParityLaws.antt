@@ -1,7 +1,7 @@
 -- A row of every column keeps the rules of every code. (Lemmas: nothing here is to be believed.)
 --
---   rising          numbers from a on are at least a, below their end, and different
---   parity_lawful   so the code of one such row is lawful
+--   above, below, apart    of numbers from a on: above all below a, below their end, pairwise different
+--   parity_lawful          so the code of one such row is lawful
 use Rattle.std.specs.Prelude.{ℕ, zero, suc, ◌+◌, ◌<◌, ◌≤◌}
 use Rattle.std.proofs.Common.{arith}
 use Rattle.std.specs.List.{AllByRecursion, range_with_len}
