@@ -3,7 +3,7 @@ ghost use Rattle.std.specs.Prelude.{◌≡◌, [], length, Some, None};
 ghost use Rattle.receiver.specs.Stands.{Stands};
 ghost use Rattle.receiver.specs.History.{Opened};
 ghost use Rattle.receiver.specs.View.{model};
-ghost use Rattle.days.specs.Days.{now_of, day_on, DayTrue};
+ghost use Rattle.days.specs.Days.{now_of, day_on, AllAnswer, DayTrue};
 ghost use Rattle.days.specs.Whole.{Day};
 
 use crate::obey::obey;
@@ -25,6 +25,7 @@ fn serve<S: Symbol, C: Code, P: Policy>(
 )
     requires { length log.old ≡ length orders.now }
     ensures day { (o : Opened) → Stands S.Symbol.kind o [] (model desk.old.block) → DayTrue S.Symbol.kind o (day_on S.Symbol.kind P.Policy.choice (C.Rows.matrix code.now) (length words.old) (length sides.old) (Some (now_of (model desk.old.block) policy.old desk.old.held [])) orders.now log.new) }
+    ensures answers { AllAnswer S.Symbol.kind P.Policy.choice (C.Rows.matrix code.now) (length words.old) (length sides.old) (Some (now_of (model desk.old.block) policy.old desk.old.held [])) orders.now log.new }
     ensures held { desk.new.held ≡ None }
 {
     // By place, since after a `zip` over `iter_mut` a proof knows no element.
@@ -34,7 +35,7 @@ fn serve<S: Symbol, C: Code, P: Policy>(
     desk.close();
 }
 
-// Why a day was not begun: its open was refused, or its log is not as long as its orders.
+// Why a day was not begun: its log is not as long as its orders, which is judged first, or its open was refused.
 #[derive(Clone, Copy, PartialEq, Eq, Debug)]
 pub enum Unbegun {
     Refused(Fault),
