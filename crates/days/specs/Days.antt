@@ -6,11 +6,13 @@
 --   DayTrue       one entry for each order, each belonging to it, and every event that they tell was true when it came
 --   Answers, AllAnswer    the entry of each solve is what the method answers: its counts and its shortfall too
 --   Obeyed        what obeying one order does
-use Rattle.std.specs.Prelude.{◌≡◌, ℕ, List, [], ◌∷◌, ◌++◌, Some, None, Ok, Err, Option, Result}
+--   Cleared       memory as it was, or with its first m elements zero
+use Rattle.std.specs.Prelude.{◌≡◌, ◌⊎◌, ℕ, List, [], ◌∷◌, ◌++◌, Some, None, Ok, Err, Option, Result}
 use Rattle.symbols.specs.Kinds.{Kind}
 use Rattle.codes.specs.Matrix.{Matrix}
 use Rattle.method.specs.Method.{Choice}
 use Rattle.search.specs.declared.answer.Report.{Report}
+use Rattle.search.specs.Found.{wiped}
 use Rattle.receiver.specs.declared.fault.Unsolved.{Unsolved}
 use Rattle.receiver.specs.declared.permit.Permit.{Permit}
 use Rattle.receiver.specs.Calls.{refusal}
@@ -169,3 +171,7 @@ pub record Obeyed {S P : Type 0} (K : Kind S) (choice : Matrix → Choice P) (k 
   pub answers : (h : List (Event S)) → Answers K choice k words symbols (now_of m p held h) order entry
   pub history : GoesOn K m events m'
   pub holding : Holding m held → Holding m' held'
+
+-- memory as it was, or with its first m elements zero
+abbrev pub Cleared : {X : Type 0} → X → ℕ → List X → List X → Type 0
+Cleared z m xs ys = (ys ≡ xs) ⊎ (ys ≡ wiped z m xs)
