@@ -1,5 +1,5 @@
 -- What orders leave in working memory: it stays as it was, or its first elements are zero.
-use Rattle.std.proofs.Common.{◌≡◌, ℕ, ◌*◌, ◌≤◌, min, List, ◌++◌, length, drop, replicate, Some, None, Option, sym, refl, ap, ap₂, ◌∙◌, subst, inl, inr, arith}
+use Rattle.std.proofs.Common.{◌≡◌, ℕ, ◌*◌, min, List, ◌++◌, length, drop, replicate, Some, None, Option, sym, refl, ap, ap₂, ◌∙◌, subst, inl, inr, arith}
 use Rattle.std.proofs.lemmas.List.{drop_min, length-append, length-drop, length-replicate}
 use Rattle.std.proofs.lemmas.Slice.{drop-append-drop}
 use Rattle.symbols.specs.Kinds.{Kind}
