@@ -1,6 +1,7 @@
 -- A day of calls on one block, and the history that its orders and its log tell.
 --
 --   Now           between two calls: the block's values, the policy's state, the permit in hand, the events so far
+--   left_by       what a solve leaves, whatever its memory held
 --   on            what an order and its entry make of it; none where the two do not belong together
 --   day_on        what the orders of a day and the entries of its log make of it
 --   DayTrue       one entry for each order, each belonging to it, and every event that they tell was true when it came
