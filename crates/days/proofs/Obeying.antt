@@ -19,7 +19,7 @@ use Rattle.receiver.specs.Solves.{search_of, found_of, after_search, answer_of, 
 use Rattle.receiver.specs.Stands.{GoesOn}
 use Rattle.receiver.proofs.Refusing.{no_cause}
 use Rattle.receiver.specs.Holding.{Holding, ClosedUnder}
-use Rattle.days.specs.Days.{Now, now_of, permit_of, Obeyed, on, day_on, DayTrue}
+use Rattle.days.specs.Days.{Now, now_of, permit_of, Obeyed, on, day_on, Answers, AllAnswer, DayTrue}
 use Rattle.days.specs.declared.order.Order.{Order}
 use Rattle.days.specs.declared.order.Entry.{Entry}
 use Rattle.days.specs.declared.order.Order.TheVariants.{Receive, Solve, Show, Close, Renew}
@@ -31,6 +31,7 @@ module _ {S P : Type 0} (K : Kind S) (choice : Matrix → Choice P) (k : Matrix)
   received m m' b s p x (Ok u) st q step goes = record {
     events = receive_event b s p x (Ok u) ∷ [];
     told = λ h. ap (λ n. Some (now_of n st q (receive_event b s p x (Ok u) ∷ h))) (sym step.1);
+    answers = λ h. tt;
     history = goes;
     holding = λ h. subst (λ n. Holding n q) (sym step.1) (kept q h);
   }
@@ -41,6 +42,7 @@ module _ {S P : Type 0} (K : Kind S) (choice : Matrix → Choice P) (k : Matrix)
   received m m' b s p x (Err f) st q step goes = record {
     events = receive_event {U = Unit {0}} b s p x (Err f) ∷ [];
     told = λ h. ap (λ n. Some (now_of n st q (receive_event {U = Unit {0}} b s p x (Err f) ∷ h))) (sym step.1);
+    answers = λ h. tt;
     history = goes;
     holding = λ h. subst (λ n. Holding n q) (sym step.1) h;
   }
@@ -50,6 +52,7 @@ module _ {S P : Type 0} (K : Kind S) (choice : Matrix → Choice P) (k : Matrix)
   renewed m m' s (Ok u) st q step goes = record {
     events = renew_event s (Ok u) ∷ [];
     told = λ h. ap (λ n. Some (now_of n st q (renew_event s (Ok u) ∷ h))) (sym step.1);
+    answers = λ h. tt;
     history = goes;
     holding = λ h. subst (λ n. Holding n q) (sym step.1) (kept q (no_cause _ _ _ step.0).0 h);
   }
@@ -60,6 +63,7 @@ module _ {S P : Type 0} (K : Kind S) (choice : Matrix → Choice P) (k : Matrix)
   renewed m m' s (Err f) st q step goes = record {
     events = renew_event {U = Unit {0}} s (Err f) ∷ [];
     told = λ h. ap (λ n. Some (now_of n st q (renew_event {U = Unit {0}} s (Err f) ∷ h))) (sym step.1);
+    answers = λ h. tt;
     history = goes;
     holding = λ h. subst (λ n. Holding n q) (sym step.1) h;
   }
@@ -70,12 +74,13 @@ module _ {S P : Type 0} (K : Kind S) (choice : Matrix → Choice P) (k : Matrix)
   shut m m' (Some q) st e done = record {
     events = closed q ∷ [];
     told = λ h. ap (λ n. Some (now_of n st None (closed q ∷ h))) (sym done.0.1);
+    answers = λ h. tt;
     history = done.1;
     holding = λ h. ap (λ n. n.out) done.0.1;
   }
 
   pub not_shut : (m m' : Block S) (q : Option Permit) (st : P) → is_some q ≡ false → ClosedUnder K m q m' → Obeyed K choice k nw ns m m' st st q None Close NoPermit
-  not_shut m m' None st e same = subst (λ n. Obeyed K choice k nw ns m n st st None None Close NoPermit) (sym same) (record { events = []; told = λ h. refl; history = λ o h s. s; holding = λ h. h })
+  not_shut m m' None st e same = subst (λ n. Obeyed K choice k nw ns m n st st None None Close NoPermit) (sym same) (record { events = []; told = λ h. refl; answers = λ h. tt; history = λ o h s. s; holding = λ h. h })
   not_shut m m' (Some q) st e done = cc
 
 -- what a solve leaves of the block and the policy does not go by what its memory held
@@ -87,6 +92,10 @@ module _ {S P : Type 0} (K : Kind S) (choice : Matrix → Choice P) (k : Matrix)
   same_policy : (o : Option Fault) (ws : List ℕ) (ss : List S) → (solved_by K choice k m p o ws ss).policy ≡ (solved_by K choice k m p o [] []).policy
   same_policy None ws ss = refl
   same_policy (Some f) ws ss = refl
+
+  same_answer : (o : Option Fault) (ws : List ℕ) (ss : List S) → (solved_by K choice k m p o ws ss).answer ≡ (solved_by K choice k m p o [] []).answer
+  same_answer None ws ss = refl
+  same_answer (Some f) ws ss = refl
 
   -- a permit bears the block's numbers, and is out
   permitted : (o : Option Fault) (ws : List ℕ) (ss : List S) (q : Permit) → ◌≡◌ {A = Result Permit Unsolved} (Ok q) (solved_by K choice k m p o ws ss).answer
@@ -127,6 +136,7 @@ module _ {S P : Type 0} (K : Kind S) (choice : Matrix → Choice P) (k : Matrix)
       record {
         events = solve_event (search_of k (length ws) (length ss)) (named K choice k m p) (Ok q) ∷ [];
         told = λ h i. Some (now_of (block' i) (policy' i) (Some (permit i)) (solve_event (search_of k (length ws) (length ss)) (named K choice k m p) (Ok (permit i)) ∷ h));
+        answers = λ h. ap (λ a. Ok a) permit ∙ (ap (λ d. d.answer) done ∙ same_answer K choice k m p o ws ss);
         history = goes;
         holding = λ h. (
           ap (λ b. b.out) block ∙ t.1,
@@ -148,6 +158,7 @@ module _ {S P : Type 0} (K : Kind S) (choice : Matrix → Choice P) (k : Matrix)
       record {
         events = solve_event (search_of k (length ws) (length ss)) (named K choice k m p) (Err u) ∷ [];
         told = λ h i. Some (now_of (block' i) (policy' i) held (solve_event (search_of k (length ws) (length ss)) (named K choice k m p) (Err u) ∷ h));
+        answers = λ h. ap (λ d. d.answer) done ∙ same_answer K choice k m p o ws ss;
         history = goes;
         holding = λ h. subst (λ n. Holding n held) (sym same) h;
       }
@@ -158,12 +169,12 @@ module _ {S P : Type 0} (K : Kind S) (choice : Matrix → Choice P) (k : Matrix)
       → Obeyed K choice k nw ns m m st st q q (Show p) (Shown r)
   shown q a p r is step goes =
       subst (λ q. Obeyed K choice k nw ns m m st st q q (Show p) (Shown r)) (sym is)
-      (record { events = shown_event a p r ∷ []; told = λ h. refl; history = goes; holding = λ h. h })
+      (record { events = shown_event a p r ∷ []; told = λ h. refl; answers = λ h. tt; history = goes; holding = λ h. h })
 
 -- a show without a permit leaves everything as it was
 module _ {S P : Type 0} (K : Kind S) (choice : Matrix → Choice P) (k : Matrix) (nw ns : ℕ) (m : Block S) (p : P) where
   pub not_shown : (q : Option Permit) (place : ℕ) → q ≡ None → Obeyed K choice k nw ns m m p p q q (Show place) NoPermit
-  not_shown None place e = record { events = []; told = λ h. refl; history = λ o h s. s; holding = λ h. h }
+  not_shown None place e = record { events = []; told = λ h. refl; answers = λ h. tt; history = λ o h s. s; holding = λ h. h }
   not_shown (Some q) place e = cc
 
 -- one order and its entry more
@@ -175,6 +186,14 @@ module _ {S P : Type 0} (K : Kind S) (choice : Matrix → Choice P) (k : Matrix)
   day_more (Some x) [] (f ∷ es) o e y z h g = let c : ◌≡◌ {A = ℕ} 0 1 = cc in absurd (omega arith)
   day_more (Some x) (q ∷ os) [] o e y z h g = let c : ◌≡◌ {A = ℕ} 0 1 = cc in absurd (omega arith)
   day_more (Some x) (q ∷ os) (f ∷ es) o e y z h g = day_more (on K choice k nw ns x q f) os es o e y z h g
+
+  pub all_more : (x : Option (Now S P)) (os : List (Order S)) (es : List (Entry S)) (o : Order S) (e : Entry S) (y : Now S P) → AllAnswer K choice k nw ns x os es → day_on K choice k nw ns x os es ≡ Some y → Answers K choice k nw ns y o e
+      → AllAnswer K choice k nw ns x (os ++ o ∷ []) (es ++ e ∷ [])
+  all_more None os es o e y a h g = let c : ◌≡◌ {A = ℕ} 0 1 = cc in absurd (omega arith)
+  all_more (Some x) [] [] o e y a h g = (subst (λ n. Answers K choice k nw ns n o e) (sym (ap (λ n. elim n [ Some v ↦ v | None ↦ x ]) h)) g, tt)
+  all_more (Some x) [] (f ∷ es) o e y a h g = let c : ◌≡◌ {A = ℕ} 0 1 = cc in absurd (omega arith)
+  all_more (Some x) (q ∷ os) [] o e y a h g = let c : ◌≡◌ {A = ℕ} 0 1 = cc in absurd (omega arith)
+  all_more (Some x) (q ∷ os) (f ∷ es) o e y a h g = (a.0, all_more (on K choice k nw ns x q f) os es o e y a.1 h g)
 
   -- a day that was told whole is true where its history stands
   pub day_true : (o : Opened) (x : Option (Now S P)) (m : Block S) (p : P) (q : Option Permit) (h : List (Event S)) → x ≡ Some (now_of m p q h) → Truths K o h → DayTrue K o x

@@ -1,15 +1,19 @@
 -- A day of calls on one block, and the history that its orders and its log tell.
 --
 --   Now           between two calls: the block's values, the policy's state, the permit in hand, the events so far
+--   left_by       what a solve leaves, whatever its memory held
 --   on            what an order and its entry make of it; none where the two do not belong together
 --   day_on        what the orders of a day and the entries of its log make of it
 --   DayTrue       one entry for each order, each belonging to it, and every event that they tell was true when it came
+--   Answers, AllAnswer    the entry of each solve is what the method answers: its counts and its shortfall too
 --   Obeyed        what obeying one order does
-use Rattle.std.specs.Prelude.{◌≡◌, ℕ, List, [], ◌∷◌, ◌++◌, Some, None, Ok, Err, Option, Result}
+--   Cleared       memory as it was, or with its first m elements zero
+use Rattle.std.specs.Prelude.{◌≡◌, ◌⊎◌, ℕ, List, [], ◌∷◌, ◌++◌, Some, None, Ok, Err, Option, Result}
 use Rattle.symbols.specs.Kinds.{Kind}
 use Rattle.codes.specs.Matrix.{Matrix}
 use Rattle.method.specs.Method.{Choice}
 use Rattle.search.specs.declared.answer.Report.{Report}
+use Rattle.search.specs.Found.{wiped}
 use Rattle.receiver.specs.declared.fault.Unsolved.{Unsolved}
 use Rattle.receiver.specs.declared.permit.Permit.{Permit}
 use Rattle.receiver.specs.Calls.{refusal}
@@ -19,7 +23,7 @@ use Rattle.receiver.specs.History.Event.{closed}
 use Rattle.receiver.specs.Blocks.{Block, seen, filled, closed_block, renewed_block}
 use Rattle.receiver.specs.Holding.{Holding}
 use Rattle.receiver.specs.Steps.{receive_event, shown_event, renew_event}
-use Rattle.receiver.specs.Solves.{search_of, solve_event, named, solved_by}
+use Rattle.receiver.specs.Solves.{Done, search_of, solve_event, named, solved_by}
 use Rattle.receiver.specs.Stands.{GoesOn}
 use Rattle.days.specs.declared.order.Order.{Order}
 use Rattle.days.specs.declared.order.Order.TheVariants.{Receive, Solve, Show, Close, Renew}
@@ -62,10 +66,14 @@ module _ {S P : Type 0} (K : Kind S) (choice : Matrix → Choice P) (k : Matrix)
   on_receive x b s p y (Renewed r) = None
   on_receive x b s p y NoPermit = None
 
+  -- what a solve leaves, whatever its memory held
+  abbrev pub left_by : Now S P → Done S P
+  left_by x = solved_by K choice k x.block x.policy (refusal K (seen x.block) (solve (search_of k words symbols))) [] []
+
   abbrev pub on_solve : Now S P → Entry S → Option (Now S P)
   on_solve x (Received r) = None
   on_solve x (Solved r) =
-      let after = solved_by K choice k x.block x.policy (refusal K (seen x.block) (solve (search_of k words symbols))) [] [] in
+      let after = left_by x in
       moved x (solve_event (search_of k words symbols) (named K choice k x.block x.policy) (answer_with x.block r)) after.block after.policy (in_hand x.block r x.held)
   on_solve x (Shown r) = None
   on_solve x Closed = None
@@ -122,6 +130,34 @@ module _ {S P : Type 0} (K : Kind S) (choice : Matrix → Choice P) (k : Matrix)
   day_on (Some x) (o ∷ os) [] = None
   day_on (Some x) (o ∷ os) (e ∷ es) = day_on (on x o e) os es
 
+  abbrev pub SolveAnswers : Now S P → Entry S → Type 0
+  SolveAnswers x (Received r) = Unit {0}
+  SolveAnswers x (Solved r) = answer_with x.block r ≡ (left_by x).answer
+  SolveAnswers x (Shown r) = Unit {0}
+  SolveAnswers x Closed = Unit {0}
+  SolveAnswers x (Renewed r) = Unit {0}
+  SolveAnswers x NoPermit = Unit {0}
+
+  abbrev pub Answers : Now S P → Order S → Entry S → Type 0
+  Answers x (Receive b s p y) e = Unit {0}
+  Answers x Solve e = SolveAnswers x e
+  Answers x (Show p) e = Unit {0}
+  Answers x Close e = Unit {0}
+  Answers x (Renew s) e = Unit {0}
+
+  abbrev pub AnswersAt : Option (Now S P) → Order S → Entry S → Type 0
+  AnswersAt None o e = Unit {0}
+  AnswersAt (Some x) o e = Answers x o e
+
+  abbrev pub on_at : Option (Now S P) → Order S → Entry S → Option (Now S P)
+  on_at None o e = None
+  on_at (Some x) o e = on x o e
+
+  abbrev pub AllAnswer : Option (Now S P) → List (Order S) → List (Entry S) → Type 0
+  AllAnswer n [] es = Unit {0}
+  AllAnswer n (o ∷ os) [] = Unit {0}
+  AllAnswer n (o ∷ os) (e ∷ es) = AnswersAt n o e × AllAnswer (on_at n o e) os es
+
 abbrev pub DayTrue : {S P : Type 0} → Kind S → Opened → Option (Now S P) → Type 0
 DayTrue K o None = ⊥
 DayTrue K o (Some x) = Truths K o x.history
@@ -133,5 +169,10 @@ now_of m p q h = record { block = m; policy = p; held = q; history = h }
 pub record Obeyed {S P : Type 0} (K : Kind S) (choice : Matrix → Choice P) (k : Matrix) (words symbols : ℕ) (m m' : Block S) (p p' : P) (held held' : Option Permit) (order : Order S) (entry : Entry S) : Type 0 where
   pub events : List (Event S)
   pub told : (h : List (Event S)) → on K choice k words symbols (now_of m p held h) order entry ≡ Some (now_of m' p' held' (events ++ h))
+  pub answers : (h : List (Event S)) → Answers K choice k words symbols (now_of m p held h) order entry
   pub history : GoesOn K m events m'
   pub holding : Holding m held → Holding m' held'
+
+-- memory as it was, or with its first m elements zero
+abbrev pub Cleared : {X : Type 0} → X → ℕ → List X → List X → Type 0
+Cleared z m xs ys = (ys ≡ xs) ⊎ (ys ≡ wiped z m xs)

@@ -1,9 +1,10 @@
 // A day on one block: its open, one call after another, and the log.
-ghost use Rattle.std.specs.Prelude.{◌≡◌, [], length, Some, None};
+ghost use Rattle.std.specs.Prelude.{◌≡◌, ◌*◌, [], length, Some, None};
+ghost use Rattle.codes.specs.Matrix.{height};
 ghost use Rattle.receiver.specs.Stands.{Stands};
 ghost use Rattle.receiver.specs.History.{Opened};
 ghost use Rattle.receiver.specs.View.{model};
-ghost use Rattle.days.specs.Days.{now_of, day_on, DayTrue};
+ghost use Rattle.days.specs.Days.{now_of, day_on, AllAnswer, Cleared, DayTrue};
 ghost use Rattle.days.specs.Whole.{Day};
 
 use crate::obey::obey;
@@ -25,6 +26,9 @@ fn serve<S: Symbol, C: Code, P: Policy>(
 )
     requires { length log.old ≡ length orders.now }
     ensures day { (o : Opened) → Stands S.Symbol.kind o [] (model desk.old.block) → DayTrue S.Symbol.kind o (day_on S.Symbol.kind P.Policy.choice (C.Rows.matrix code.now) (length words.old) (length sides.old) (Some (now_of (model desk.old.block) policy.old desk.old.held [])) orders.now log.new) }
+    ensures answers { AllAnswer S.Symbol.kind P.Policy.choice (C.Rows.matrix code.now) (length words.old) (length sides.old) (Some (now_of (model desk.old.block) policy.old desk.old.held [])) orders.now log.new }
+    ensures words { Cleared 0 (8 * height (C.Rows.matrix code.now)) words.old words.new }
+    ensures sides { Cleared S.Symbol.kind.zero (height (C.Rows.matrix code.now)) sides.old sides.new }
     ensures held { desk.new.held ≡ None }
 {
     // By place, since after a `zip` over `iter_mut` a proof knows no element.
@@ -34,7 +38,7 @@ fn serve<S: Symbol, C: Code, P: Policy>(
     desk.close();
 }
 
-// Why a day was not begun: its open was refused, or its log is not as long as its orders.
+// Why a day was not begun: its log is not as long as its orders, which is judged first, or its open was refused.
 #[derive(Clone, Copy, PartialEq, Eq, Debug)]
 pub enum Unbegun {
     Refused(Fault),
@@ -54,7 +58,9 @@ pub fn day<S: Symbol, C: Code, P: Policy>(
     orders: &[Order<S>],
     log: &mut [Entry<S>],
 ) -> Result<(), Unbegun>
-    ensures { Day S.Symbol.kind P.Policy.choice (C.Rows.matrix code.now) (length words.old) (length sides.old) number stamp table.old policy.old orders.now log.old log.new result }
+    ensures day { Day S.Symbol.kind P.Policy.choice (C.Rows.matrix code.now) (length words.old) (length sides.old) number stamp table.old policy.old orders.now log.old log.new result }
+    ensures words { Cleared 0 (8 * height (C.Rows.matrix code.now)) words.old words.new }
+    ensures sides { Cleared S.Symbol.kind.zero (height (C.Rows.matrix code.now)) sides.old sides.new }
 {
     if log.len() != orders.len() {
         return Err(Unbegun::LogLength(log.len()));

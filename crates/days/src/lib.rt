@@ -5,4 +5,5 @@ mod day;
 mod obey;
 mod order;
 
+pub use day::{Unbegun, day};
 pub use order::{Entry, Order};

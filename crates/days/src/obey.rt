@@ -1,7 +1,8 @@
 // Obeying one order on a block.
-ghost use Rattle.std.specs.Prelude.{length};
+ghost use Rattle.std.specs.Prelude.{◌*◌, length};
+ghost use Rattle.codes.specs.Matrix.{height};
 ghost use Rattle.receiver.specs.View.{model};
-ghost use Rattle.days.specs.Days.{Obeyed};
+ghost use Rattle.days.specs.Days.{Cleared, Obeyed};
 
 use crate::order::{Entry, Order};
 use codes::Code;
@@ -18,7 +19,9 @@ fn obey_solve<S: Symbol, C: Code, P: Policy>(
     words: &mut [u64],
     sides: &mut [S],
 ) -> Entry<S>
-    ensures { Obeyed S.Symbol.kind P.Policy.choice (C.Rows.matrix code.now) (length words.old) (length sides.old) (model desk.old.block) (model desk.new.block) policy.old policy.new desk.old.held desk.new.held Order.Solve result }
+    ensures obeyed { Obeyed S.Symbol.kind P.Policy.choice (C.Rows.matrix code.now) (length words.old) (length sides.old) (model desk.old.block) (model desk.new.block) policy.old policy.new desk.old.held desk.new.held Order.Solve result }
+    ensures words { Cleared 0 (8 * height (C.Rows.matrix code.now)) words.old words.new }
+    ensures sides { Cleared S.Symbol.kind.zero (height (C.Rows.matrix code.now)) sides.old sides.new }
 {
     match desk.block.solve(code, policy, words, sides) {
         Ok(permit) => {
@@ -41,7 +44,9 @@ pub(crate) fn obey<S: Symbol, C: Code, P: Policy>(
     sides: &mut [S],
     order: Order<S>,
 ) -> Entry<S>
-    ensures { Obeyed S.Symbol.kind P.Policy.choice (C.Rows.matrix code.now) (length words.old) (length sides.old) (model desk.old.block) (model desk.new.block) policy.old policy.new desk.old.held desk.new.held order result }
+    ensures obeyed { Obeyed S.Symbol.kind P.Policy.choice (C.Rows.matrix code.now) (length words.old) (length sides.old) (model desk.old.block) (model desk.new.block) policy.old policy.new desk.old.held desk.new.held order result }
+    ensures words { Cleared 0 (8 * height (C.Rows.matrix code.now)) words.old words.new }
+    ensures sides { Cleared S.Symbol.kind.zero (height (C.Rows.matrix code.now)) sides.old sides.new }
 {
     match order {
         Order::Receive {

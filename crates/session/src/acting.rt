@@ -1,5 +1,5 @@
 // Making one call on an opened block, and entering its answer.
-ghost use Rattle.std.specs.Prelude.{◌≡◌, ◌≤◌, false, ◌||◌, ltb, List, length, Some, None, Option, nat_lt};
+ghost use Rattle.std.specs.Prelude.{◌≡◌, ◌≤◌, false, ◌||◌, ltb, List, length, take, Some, None, Option, nat_lt};
 ghost use Rattle.std.specs.Option.{option_map};
 ghost use Rattle.piles.specs.declared.pile.Pile.{Pile};
 ghost use Rattle.receiver.specs.declared.permit.Permit.{Permit};
@@ -71,7 +71,8 @@ fn short<S>(words: &[u64], sides: &[S], asked_words: usize, symbols: usize) -> b
 // The first n elements.
 fn front<T>(all: &mut [T], n: usize) -> &mut [T]
     requires { n ≤ length all.old }
-    ensures { length result.now ≡ n }
+    ensures long { length result.now ≡ n }
+    ensures first { result.now ≡ take n all.old }
 {
     &mut all[..n]
 }

@@ -24,7 +24,7 @@ invariant_of-desk g c =
     let pile = c.in-Some.pile.now in
     let r = c.in-Ok.answer in
     let made : PileSolved K (pile_code pile) c.args.policy c.args.asked_words c.args.symbols m (Ok r) m' =
-    subst (λ n. PileSolved K (pile_code pile) c.args.policy n c.args.symbols m (Ok r) m') c.front-words.ensures (subst (λ n. PileSolved K (pile_code pile) c.args.policy (length c.front-words.result.now) n m (Ok r) m') c.front-sides.ensures c.in-Ok.ensures) in
+    subst (λ n. PileSolved K (pile_code pile) c.args.policy n c.args.symbols m (Ok r) m') c.front-words.ensures.long (subst (λ n. PileSolved K (pile_code pile) c.args.policy (length c.front-words.result.now) n m (Ok r) m') c.front-sides.ensures.long c.in-Ok.ensures) in
     let acted = solved_so (setting K g.S.Carried.carriage c.args.codes.now (memory_of c.args.words.now c.args.sides.now)) m m' _ _ _ _ _ None pile r _ _ c.if-short.ensures (sym c.in-Some.ensures) made c.solved.ensures.entry c.solved.ensures.hand in
     record { holding = ∥∥₁_map c.args.desk.now.holding acted.holding }
 
@@ -36,7 +36,7 @@ returns-in-Ok g c other =
     let pile = c.in-Some.pile.now in
     let r = c.in-Ok.answer in
     let made : PileSolved K (pile_code pile) c.args.policy c.args.asked_words c.args.symbols m (Ok r) m' =
-    subst (λ n. PileSolved K (pile_code pile) c.args.policy n c.args.symbols m (Ok r) m') c.front-words.ensures (subst (λ n. PileSolved K (pile_code pile) c.args.policy (length c.front-words.result.now) n m (Ok r) m') c.front-sides.ensures c.in-Ok.ensures) in
+    subst (λ n. PileSolved K (pile_code pile) c.args.policy n c.args.symbols m (Ok r) m') c.front-words.ensures.long (subst (λ n. PileSolved K (pile_code pile) c.args.policy (length c.front-words.result.now) n m (Ok r) m') c.front-sides.ensures.long c.in-Ok.ensures) in
     solved_so _ m m' _ _ _ _ _ other pile r _ _ c.if-short.ensures (sym c.in-Some.ensures) made c.solved.ensures.entry c.solved.ensures.hand
 
 pub returns-in-Err : goal.returns-in-Err
@@ -47,5 +47,5 @@ returns-in-Err g c other =
     let pile = c.in-Some.pile.now in
     let e = c.in-Err._none in
     let made : PileSolved K (pile_code pile) c.args.policy c.args.asked_words c.args.symbols m (Err e) m' =
-    subst (λ n. PileSolved K (pile_code pile) c.args.policy n c.args.symbols m (Err e) m') c.front-words.ensures (subst (λ n. PileSolved K (pile_code pile) c.args.policy (length c.front-words.result.now) n m (Err e) m') c.front-sides.ensures c.in-Err.ensures) in
+    subst (λ n. PileSolved K (pile_code pile) c.args.policy n c.args.symbols m (Err e) m') c.front-words.ensures.long (subst (λ n. PileSolved K (pile_code pile) c.args.policy (length c.front-words.result.now) n m (Err e) m') c.front-sides.ensures.long c.in-Err.ensures) in
     with_no_code _ m m' _ _ _ _ _ other pile e c.if-short.ensures (sym c.in-Some.ensures) made
