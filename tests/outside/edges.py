@@ -749,8 +749,13 @@ def renewing():
     ]
 
 
+def start():
+    """Lines that are no calls, and then the first call."""
+    return ["# nothing is a call before the kind of symbols", "", "symbols", "symbols bits", "  symbols\tcell \r", "symbols cell"]
+
+
 def cells():
     """All of them as one script's lines: what wants no code in hand comes before the codes, and what wants no memory said before the memory."""
     before = [line.encode() for part in (nothing_open, refused_opens) for line in part()]
     after = [line.encode() for part in (worked_examples, refused_blocks, receiving, solving, piles, permits, renewing) for line in part()]
-    return packet_edges() + before + code_edges() + after
+    return [line.encode() for line in start()] + packet_edges() + before + code_edges() + after

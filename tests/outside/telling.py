@@ -1,11 +1,12 @@
-"""Codes of twelve places in every shape of pile, with losses whose pivots or additions tell the policies apart."""
+"""Codes of twelve places in every shape of pile, with losses under which the policies answer differently, as far as the shape lets them."""
 
+import functools
 import random
 
 import generate
 from elimination import POLICIES, Search
 
-PLACES = 12
+PLACES, DRAWS = 12, 500
 
 
 def listed(rng, rows):
@@ -31,18 +32,25 @@ def others(places):
     return [place for place in range(PLACES) if place not in places]
 
 
-def counts(code, received):
+def told(code, received):
+    """What a solve tells under each policy: how many pivots, and additions."""
     searches = [Search(code, received, policy) for policy in POLICIES.values()]
-    return [(tuple(search.pivots), search.additions) for search in searches]
+    return [(len(search.pivots), search.additions) for search in searches]
 
 
+def drawn(shape, seed):
+    """The words of a code of this shape, the code, and as many places lost as it can settle."""
+    rng = random.Random(f"{shape} {seed}")
+    words = SHAPES[shape](rng)
+    code = generate.code_of(words)
+    return words, code, sorted(generate.reduced(code, rng.sample(range(PLACES), PLACES)))
+
+
+@functools.cache
 def telling(shape):
-    """The words of a code of this shape, the code, and the places lost."""
-    for seed in range(3000):
-        rng = random.Random(f"{shape} {seed}")
-        words = SHAPES[shape](rng)
-        code = generate.code_of(words)
-        lost = sorted(generate.reduced(code, rng.sample(range(PLACES), PLACES)))
-        if len(set(counts(code, dict.fromkeys(others(lost), 0)))) >= 3:
-            return words, code, lost
-    raise AssertionError(f"no code of shape {shape} tells the policies apart")
+    """Of many draws the first under which most policies answer differently; seldom the two over which component stands, so these count first."""
+    def apart(draw):
+        _, code, lost = draw
+        answers = told(code, dict.fromkeys(others(lost), 0))
+        return answers[-2] != answers[-1], len(set(answers))
+    return max((drawn(shape, seed) for seed in range(DRAWS)), key=apart)
