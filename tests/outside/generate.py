@@ -235,11 +235,14 @@ class Scribe:
         came = [c for c in range(len(word)) if c not in lost]
         if self.chance(0.4):
             rng.shuffle(came)
+        if came and self.chance(0.08):
+            came.insert(rng.randrange(len(came) + 1), rng.choice(came))
         self.hear(came)
 
     def packet_hex(self, place):
-        block, _, _, word, _ = self.blocks[self.used]
-        return f"{(block % 4096) << 20 | place:08x}" + self.kind.write(word[place])
+        block, _, n, word, _ = self.blocks[self.used]
+        told = place if self.chance(0.99) else min(n, 512) + self.rng.randrange(2)
+        return f"{(block % 4096) << 20 | told:08x}" + self.kind.write(word[place])
 
     def hear(self, places):
         """Packets that come, one by one or in runs."""
@@ -456,7 +459,8 @@ def script(seed):
     elif pick in (2, 3) and not scribe.large:
         scribe.twins()
     else:
-        for _ in range(1 if scribe.large else rng.randrange(1, 4)):
+        episodes = rng.randrange(10, 30) if rng.randrange(50) == 0 else rng.randrange(1, 4)
+        for _ in range(1 if scribe.large else episodes):
             scribe.episode()
     lines = [new for line in scribe.lines for new in noisy(rng, line, scribe.noise / 10 if line.startswith(b"symbols") else scribe.noise)]
     end = rng.choice([b"\n"] * 19 + [b"\r\n"])
