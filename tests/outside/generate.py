@@ -1,4 +1,5 @@
-"""Random scripts over the whole language: blocks that hear most of a codeword, codes of every shape, and every way to get a call wrong."""
+"""Random scripts over the whole language: blocks that hear most of a codeword, tiny blocks on which anything is called, codes of every shape, and every
+way to get a call wrong."""
 
 import random
 
@@ -9,6 +10,11 @@ from words import NotUnderstood
 
 POLICIES = ["first", "heaviest", "component first", "component heaviest"]
 BLOCKS, STAMPS = [0, 1, 5, 5, 4095], [1, 2, 9, 9, 4294967295]
+BOTH = "listed 1 2 0:0 0:1"
+TINY_CODES = [
+    BOTH, "listed 1 2", "listed 2 2 0:0 1:1", "listed 2 2 0:0 0:1 1:1", "listed 2 2 1:0 0:0", "listed 1 1 0:0", "circulant 1 2 1 0 0", "circulant 1 1 2 1",
+    "interleaved 1 1 2 circulant 1 1 2 1", "stacked listed 1 2 0:0 + listed 1 2 0:1", "interleaved 2 2 1 stacked listed 1 2 0:0 + circulant 1 2 1 0 0",
+]
 
 
 # numbers and bytes
@@ -365,6 +371,36 @@ class Scribe:
                                   f"show {rng.randrange(n + 1)} 1", f"show {rng.randrange(n + 1)} 2"]))
 
 
+    def tiny(self):
+        """Calls at will on two blocks of two places, with numbers and symbols that mostly agree."""
+        rng, usual = self.rng, self.rng.getrandbits(self.kind.bits)
+        for start in ("use 2", "open 0 1 2", "use 1", "open 0 1 2", f"code {BOTH}"):
+            self.line(start)
+        for _ in range(rng.randrange(20, 150)):
+            self.line(rng.choice(tiny_calls(rng, self.kind.write(rng.choice([usual] * 9 + [0, 1])))))
+
+
+def tiny_calls(rng, symbol):
+    """Calls to choose from; those stand often that a granted solve asks for."""
+    block, stamp, place, hand = rng.choice("00000001"), rng.choice("1111111203"), rng.choice("0001112"), rng.choice(["", "", " 1", " 2"])
+    packets = "".join(f"00{block}{rng.choice('00112'):0>5}{symbol}" for _ in range(rng.randrange(4)))
+    often = ["use 1", "use 2", "solve", "solve", "solve", f"show {place}{hand}", f"show {place}{hand}", f"close{hand}"]
+    return often * 2 + [f"receive {block} {stamp} {place} {symbol}"] * 6 + [
+        f"packet {stamp} 00{block}0000{place}{symbol}",
+        f"run {stamp} {packets or '-'}",
+        f"open {block} {stamp} {rng.choice('222221')}",
+        rng.choice(["figure", "grid", f"open 4096 {stamp} 2", f"open 0 {stamp} 0", f"open 0 {stamp} 513"]),
+        f"renew {rng.choice('01234')}",
+        f"code {BOTH}",
+        f"code {rng.choice(TINY_CODES)}",
+        f"policy {rng.choice(POLICIES)}",
+        f"memory {rng.choice(['7', '8', '16', '99', '99'])} {rng.choice('012999')}",
+        "memory 16 2",
+        "figure",
+        "grid",
+    ]
+
+
 def plain_call(rng):
     """A call that needs no block."""
     kind = rng.randrange(9)
@@ -449,7 +485,7 @@ def script(seed):
         return rng.choice([b"", b"\n", b"\r\n", b"#", b"\n\n\n", b" "])
     scribe = Scribe(rng)
     scribe.start()
-    pick = rng.randrange(14)
+    pick = rng.randrange(16)
     if pick == 0:
         for _ in range(rng.randrange(1, 30)):
             scribe.line(plain_call(rng))
@@ -458,6 +494,8 @@ def script(seed):
             scribe.meddle()
     elif pick in (2, 3) and not scribe.large:
         scribe.twins()
+    elif pick == 4:
+        scribe.tiny()
     else:
         episodes = rng.randrange(10, 30) if rng.randrange(50) == 0 else rng.randrange(1, 4)
         for _ in range(1 if scribe.large else episodes):
