@@ -2,17 +2,38 @@
 
 from codes import Refused
 from elimination import Search
+from fillings import agreeing, stalls, tried
+
+PACKET = 68
+FEW = 6
+
+
+def searched(kind, code, received, policy):
+    """The method's answer with its pivots and additions, checked against the codewords that agree."""
+    search = Search(code, received, policy)
+    answer = search.answer()
+    expected = [agreeing(code, received)]
+    if kind.bits == 1 and code.columns - len(received) <= FEW:
+        expected.append(tried(code, received))
+    if any(answer != other for other in expected):
+        raise AssertionError(f"the method answers {answer}, the codewords {expected}")
+    if bool(search.pivots) != stalls(code, received):
+        raise AssertionError(f"{len(search.pivots)} pivots, against the stopping sets")
+    return answer, len(search.pivots), search.additions
 
 
 class Permit:
+    """A block number and a stamp: what it is known by."""
+
     def __init__(self, number, stamp):
         self.number, self.stamp = number, stamp
 
 
 class Block:
+    """A block fresh from its open, which may have been refused: `refusal` is then what it tells."""
+
     def __init__(self, kind, number, stamp, n):
-        self.kind = kind
-        self.refusal = None
+        self.kind, self.refusal = kind, None
         if number > 4095:
             self.refusal = Refused(2, number)
         elif stamp == 0:
@@ -38,48 +59,44 @@ class Block:
         self.received[place] = symbol
 
     def packet(self, stamp, data):
-        """Raises Refused with `layer` set to 'header' or 'block'."""
-        if len(data) != 68:
+        """A refusal has `layer`, 'header' or 'block'."""
+        if len(data) != PACKET:
             refusal = Refused(1, len(data))
-            refusal.layer = 'header'
+            refusal.layer = "header"
             raise refusal
-        word = int.from_bytes(data[:4], 'big')
+        header = int.from_bytes(data[:4], "big")
         try:
-            self.receive(word >> 20, stamp, word & 0xfffff, bytes(data[4:]))
+            self.receive(header >> 20, stamp, header & 0xFFFFF, int.from_bytes(data[4:], "big"))
         except Refused as refusal:
-            refusal.layer = 'block'
+            refusal.layer = "block"
             raise
 
     def run(self, stamp, data):
         """How many packets were taken; a refusal also has `at`, its byte place."""
-        taken = 0
-        for at in range(0, len(data), 68):
+        for at in range(0, len(data), PACKET):
             try:
-                self.packet(stamp, data[at:at + 68])
+                self.packet(stamp, data[at:at + PACKET])
             except Refused as refusal:
                 refusal.at = at
                 raise
-            taken += 1
-        return taken
+        return len(data) // PACKET
 
-    def solve(self, code, policy, words, sides):
-        """(permit, pivots, additions); 13 and 14 carry pivots, additions and shortfall as values."""
-        rows = len(code.rows)
+    def solve(self, code, policy, words, symbols):
+        """(permit, pivots, additions)."""
+        m = len(code.rows)
         if self.out:
             raise Refused(6, self.stamp)
         if code.columns != self.n:
             raise Refused(5, code.columns)
-        if words < 8 * rows or sides < rows:
-            raise Refused(12, rows)
-        search = Search(self.kind, code, self.received, policy)
-        answer = search.answer()
-        counts = (len(search.pivots), search.additions)
-        if answer[0] == 'none':
-            raise Refused(13, *counts)
-        if answer[0] == 'several':
-            raise Refused(14, *counts, answer[1])
+        if words < 8 * m or symbols < m:
+            raise Refused(12, m)
+        answer, pivots, additions = searched(self.kind, code, self.received, policy)
+        if answer[0] == "none":
+            raise Refused(13, pivots, additions)
+        if answer[0] == "several":
+            raise Refused(14, pivots, additions, answer[1])
         self.found, self.out = answer[1], True
-        return (Permit(self.number, self.stamp), *counts)
+        return Permit(self.number, self.stamp), pivots, additions
 
     def owns(self, permit):
         return self.out and (permit.number, permit.stamp) == (self.number, self.stamp)

@@ -1,61 +1,65 @@
-"""The elimination method of docs/RULES.md, section 8, on plain Python sets; and a count of codewords by brute force."""
-
-from itertools import product
+"""The elimination method of docs/RULES.md, section 8, step by step; a set of columns is a number, column c its bit c."""
 
 
-def first(state):
-    return min(state.active)
+def members(columns):
+    """The columns of a set, rising."""
+    while columns:
+        low = columns & -columns
+        yield low.bit_length() - 1
+        columns ^= low
 
 
-def heaviest(state):
-    def weight(c):
-        return sum(1 for r in state.unused if c in state.code.rows[r])
-    return min(state.active, key=lambda c: (-weight(c), c))
+def first(search):
+    return next(members(search.active))
+
+
+def heaviest(search):
+    weights = dict.fromkeys(members(search.active), 0)
+    for r in search.unused:
+        for c in members(search.rows[r] & search.active):
+            weights[c] += 1
+    return min(weights, key=lambda c: (-weights[c], c))
 
 
 def component_over(below):
-    def named(state):
-        links = []
-        for r in sorted(state.unused):
-            pair = [c for c in state.code.rows[r] if c in state.active]
-            if len(pair) == 2:
-                links.append(pair)
-        if not links:
-            return below(state)
-        groups = [{c} for c in sorted(state.active)]
-        for x, y in links:
-            one = next(g for g in groups if x in g)
-            other = next(g for g in groups if y in g)
-            if one is not other:
-                groups.remove(other)
-                one |= other
-        return min(min(groups, key=lambda g: (-len(g), min(g))))
+    def named(search):
+        pairs = [search.rows[r] & search.active for r in search.unused]
+        pairs = [pair for pair in pairs if pair.bit_count() == 2]
+        if not pairs:
+            return below(search)
+        groups = []
+        for pair in pairs:
+            joined = pair
+            for group in [g for g in groups if g & pair]:
+                groups.remove(group)
+                joined |= group
+            groups.append(joined)
+        return next(members(min(groups, key=lambda g: (-g.bit_count(), g & -g))))
     return named
 
 
 POLICIES = {
-    'first': first,
-    'heaviest': heaviest,
-    'component first': component_over(first),
-    'component heaviest': component_over(heaviest),
+    (b"first",): first,
+    (b"heaviest",): heaviest,
+    (b"component", b"first"): component_over(first),
+    (b"component", b"heaviest"): component_over(heaviest),
 }
 
 
 class Search:
-    """One search: `kind` has zero, add(x, y); `received` maps a place to its symbol."""
+    """One search over a code; `received` maps a place to its symbol."""
 
-    def __init__(self, kind, code, received, policy):
-        self.kind, self.code = kind, code
-        self.sets, self.sides = [], []
+    def __init__(self, code, received, policy):
+        self.rows = [sum(1 << c for c in row) for row in code.rows]
+        self.active = sum(1 << c for c in range(code.columns) if c not in received)
+        self.sets = [row & self.active for row in self.rows]
+        self.sides = []
         for row in code.rows:
-            side = kind.zero
+            side = 0
             for c in row:
-                if c in received:
-                    side = kind.add(side, received[c])
-            self.sets.append({c for c in row if c not in received})
+                side ^= received.get(c, 0)
             self.sides.append(side)
-        self.active = {c for c in range(code.columns) if c not in received}
-        self.unused = set(range(len(code.rows)))
+        self.unused = list(range(len(code.rows)))
         self.used_for, self.additions = {}, 0
         self.pivots, self.free = [], []
         self._eliminate(policy)
@@ -64,48 +68,38 @@ class Search:
     def _use(self, r, c):
         self.unused.remove(r)
         self.used_for[c] = r
-        for q, columns in enumerate(self.sets):
-            if q != r and c in columns:
-                columns ^= self.sets[r]
-                self.sides[q] = self.kind.add(self.sides[q], self.sides[r])
+        for q in range(len(self.sets)):
+            if q != r and self.sets[q] >> c & 1:
+                self.sets[q] ^= self.sets[r]
+                self.sides[q] ^= self.sides[r]
                 self.additions += 1
 
     def _eliminate(self, policy):
         while self.active:
-            for r in sorted(self.unused):
+            for r in self.unused:
                 left = self.sets[r] & self.active
-                if len(left) == 1:
-                    c = left.pop()
-                    self.active.remove(c)
-                    self._use(r, c)
+                if left and not left & (left - 1):
+                    self.active ^= left
+                    self._use(r, left.bit_length() - 1)
                     break
             else:
                 c = policy(self)
                 self.pivots.append(c)
-                self.active.remove(c)
+                self.active ^= 1 << c
 
     def _settle(self):
         for c in self.pivots:
-            holders = [r for r in sorted(self.unused) if c in self.sets[r]]
-            if holders:
-                self._use(holders[0], c)
+            for r in self.unused:
+                if self.sets[r] >> c & 1:
+                    self._use(r, c)
+                    break
             else:
                 self.free.append(c)
 
     def answer(self):
         """('none',), ('several', shortfall) or ('one', {missing place: symbol})."""
-        if any(self.sides[r] != self.kind.zero for r in self.unused):
-            return ('none',)
+        if any(self.sides[r] for r in self.unused):
+            return ("none",)
         if self.free:
-            return ('several', len(self.free))
-        return ('one', {c: self.sides[r] for c, r in self.used_for.items()})
-
-
-def agreeing(code, received):
-    """All codewords of bits that agree with the received places, by trying every filling."""
-    missing = [c for c in range(code.columns) if c not in received]
-    for bits in product((0, 1), repeat=len(missing)):
-        word = dict(received)
-        word.update(zip(missing, bits))
-        if all(sum(word[c] for c in row) % 2 == 0 for row in code.rows):
-            yield word
+            return ("several", len(self.free))
+        return ("one", {c: self.sides[r] for c, r in self.used_for.items()})

@@ -1,35 +1,38 @@
-"""The symbol kinds of docs/RULES.md, section 4, with the text that the script language writes for each."""
+"""The symbol kinds of docs/RULES.md, section 4, and how the script language writes each.
 
+A symbol is the number whose bits are the symbol's: the sum of two is their exclusive or in every kind, and zero is 0.
+"""
 
-class Bit:
-    zero = 0
+from words import HEX, NotUnderstood, printable
 
-    @staticmethod
-    def add(x, y):
-        return x ^ y
-
-    @staticmethod
-    def read(word):
-        return {'0': 0, '1': 1}.get(word)
-
-    @staticmethod
-    def write(x):
-        return str(x)
+CELL_BYTES = 64
 
 
 def _hex(word, digits):
-    if len(word) == digits and all(ch in '0123456789abcdef' for ch in word):
-        return bytes.fromhex(word)
-    return None
+    if len(word) != digits or not HEX.fullmatch(word):
+        raise NotUnderstood
+    return int(word, 16)
 
 
-def _xor(x, y):
-    return bytes(a ^ b for a, b in zip(x, y))
+def cell_text(x):
+    """A cell for people: its bytes as text, without the zeros at its end."""
+    return printable(x.to_bytes(CELL_BYTES, "big").rstrip(b"\0"))
+
+
+class Bit:
+    bits = 1
+
+    @staticmethod
+    def read(word):
+        if word not in (b"0", b"1"):
+            raise NotUnderstood
+        return int(word)
+
+    write = text = staticmethod(str)
 
 
 class Word:
-    zero = bytes(4)
-    add = staticmethod(_xor)
+    bits = 32
 
     @staticmethod
     def read(word):
@@ -37,12 +40,14 @@ class Word:
 
     @staticmethod
     def write(x):
-        return x.hex()
+        return f"{x:08x}"
+
+    text = write
 
 
 class Cell:
-    zero = bytes(64)
-    add = staticmethod(_xor)
+    bits = 512
+    text = staticmethod(cell_text)
 
     @staticmethod
     def read(word):
@@ -50,27 +55,28 @@ class Cell:
 
     @staticmethod
     def write(x):
-        return x.hex()
+        return f"{x:0128x}"
 
 
 class Dated:
-    zero = (Cell.zero, Word.zero)
+    """A cell above a word of 32 bits."""
 
-    @staticmethod
-    def add(x, y):
-        return (_xor(x[0], y[0]), _xor(x[1], y[1]))
+    bits = 544
 
     @staticmethod
     def read(word):
-        cell, colon, time = word.partition(':')
-        if not colon:
-            return None
-        pair = (_hex(cell, 128), _hex(time, 8))
-        return None if None in pair else pair
+        parts = word.split(b":")
+        if len(parts) != 2:
+            raise NotUnderstood
+        return Cell.read(parts[0]) << 32 | Word.read(parts[1])
 
     @staticmethod
     def write(x):
-        return f'{x[0].hex()}:{x[1].hex()}'
+        return f"{Cell.write(x >> 32)}:{Word.write(x & 0xFFFFFFFF)}"
+
+    @staticmethod
+    def text(x):
+        return f"{cell_text(x >> 32)} {Word.write(x & 0xFFFFFFFF)}"
 
 
-KINDS = {'bit': Bit, 'word': Word, 'cell': Cell, 'dated': Dated}
+KINDS = {b"bit": Bit, b"word": Word, b"cell": Cell, b"dated": Dated}
