@@ -251,7 +251,10 @@ fn read_after<S: Spelled>(
 }
 
 // What a line says; none where it is not understood.
-pub(crate) fn read_said<S: Spelled>(heap: Global, line: &[u8]) -> Result<Option<Said<S>>, AllocError>
+pub(crate) fn read_said<S: Spelled>(
+    heap: Global,
+    line: &[u8],
+) -> Result<Option<Said<S>>, AllocError>
     ensures { IfOk result (λ o. option_map saying o ≡ said_by S.Spelled.spelling line.now) }
 {
     let (word, rest) = split_word(line);

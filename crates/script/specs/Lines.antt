@@ -1,18 +1,13 @@
--- The answer to a line of a script.
+-- Lines as text, and the answer to a line that is no call.
 --
 --   plain         whether a byte is shown as it is: printable ASCII, and no backslash
 --   escaped, all_escaped      bytes as text, \xNN for each that is not plain
 --   dots          '...' where a line has more than 60 bytes
 --   shown         the first 60 bytes of a line as text, and the dots
 --   not_understood            the answer to line k where it is no call
---   told          the answer to line k, by what it asks
---   line_answer   the answer to line k, none where it is passed over
-use Rattle.std.specs.Prelude.{ℕ, Bool, cond, not, ◌&&◌, List, [], ◌∷◌, ◌++◌, length, take, Some, None, codes, decimal, Option, ◌==◌, nat_le}
+use Rattle.std.specs.Prelude.{ℕ, Bool, cond, not, ◌&&◌, List, [], ◌∷◌, ◌++◌, length, take, codes, decimal, ◌==◌, nat_le}
 use Rattle.std.specs.Int.{is_in_range}
-use Rattle.script.specs.Answers.{reply, text}
-use Rattle.script.specs.Calls.{Asked, understood}
 use Rattle.script.specs.Hex.{byte_digits}
-use Rattle.script.specs.Words.{passed_over}
 
 abbrev pub plain : ℕ → Bool
 plain b = is_in_range 32 126 b && not (b == 92)
@@ -32,10 +27,3 @@ shown line = all_escaped (take 60 line) ++ dots line
 
 abbrev pub not_understood : ℕ → List ℕ → List ℕ
 not_understood k line = codes "line " ++ (decimal k ++ (codes ": not understood: " ++ shown line))
-
-abbrev pub told : ℕ → List ℕ → Option Asked → List ℕ
-told k line None = not_understood k line
-told k line (Some call) = text (reply call)
-
-abbrev pub line_answer : ℕ → List ℕ → Option (List ℕ)
-line_answer k line = cond (passed_over line) None (Some (told k line (understood line)))

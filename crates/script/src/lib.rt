@@ -14,7 +14,7 @@ mod words;
 pub use answer::{Answer, perform, print};
 pub use call::{Call, is_word, parse, read_cell};
 pub use hex::{Hex, from_hex, to_hex};
-pub use line::{Escaped, answer_line, refuse_line};
+pub use line::{Escaped, refuse_line};
 pub use number::read_number;
 pub use word::{is_blank, only_word, passed_over, split_at_byte, split_word};
 pub use words::Words;

@@ -1,14 +1,9 @@
-// A line of a script, and the line that answers it.
-ghost use Rattle.std.specs.Prelude.{◌≡◌, not, take, Some, is_some, IfOk, string_bytes};
+// Bytes and lines that print as text, and the answer to a line that is no call.
+ghost use Rattle.std.specs.Prelude.{◌≡◌, take, Some, IfOk, string_bytes};
 ghost use Rattle.std.specs.Fmt.{WritesOnOk};
-ghost use Rattle.std.specs.Option.{option_map};
-ghost use Rattle.script.specs.Words.{passed_over};
-ghost use Rattle.script.specs.Lines.{plain, escaped, all_escaped, dots, shown, not_understood, line_answer};
+ghost use Rattle.script.specs.Lines.{plain, escaped, all_escaped, dots, shown, not_understood};
 
-use crate::answer::{perform, print};
-use crate::call::parse;
 use crate::hex::write_byte;
-use crate::word::passed_over;
 use std::alloc::{AllocError, Global};
 use std::fmt;
 
@@ -78,18 +73,4 @@ pub fn refuse_line(heap: Global, k: u64, line: &[u8]) -> Result<String, AllocErr
     ensures { IfOk result (λ s. string_bytes s ≡ not_understood k line.now) }
 {
     format!(in heap; "line {k}: not understood: {}", Shown(line))
-}
-
-// The answer to line `k`, or none where the line is passed over.
-pub fn answer_line(heap: Global, k: u64, line: &[u8]) -> Result<Option<String>, AllocError>
-    ensures text { IfOk result (λ o. option_map string_bytes o ≡ line_answer k line.now) }
-    ensures one { IfOk result (λ o. is_some o ≡ not (passed_over line.now)) }
-{
-    if passed_over(line) {
-        return Ok(None);
-    }
-    match parse(heap, line)? {
-        Some(call) => print(heap, &perform(&call)).map(Some),
-        None => refuse_line(heap, k, line).map(Some),
-    }
 }
