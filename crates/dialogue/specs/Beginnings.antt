@@ -10,7 +10,7 @@ use Rattle.script.specs.Lines.{not_understood}
 use Rattle.script.specs.Words.{passed_over}
 use Rattle.symbols.specs.declared.kinds.Cell.{Cell}
 use Rattle.dialogue.specs.Lines.{Numbered, Cut, Cuts}
-use Rattle.dialogue.specs.Sayings.{Saying, said_by, Saying.say_apart, Saying.say_symbols, Saying.say_code, Saying.say_row, Saying.say_policy, Saying.say_memory, Saying.say_use, Saying.say_open, Saying.say_receive, Saying.say_packet, Saying.say_run, Saying.say_solve, Saying.say_show, Saying.say_close, Saying.say_renew, Saying.say_figure, Saying.say_grid}
+use Rattle.dialogue.specs.Sayings.{Saying, said_by, Saying.say_symbols}
 use Rattle.dialogue.specs.Scores.{Line, Line.told}
 use Rattle.dialogue.specs.Symbols.{cells}
 use Rattle.dialogue.specs.declared.beginning.FirstLine.{FirstLine}
@@ -30,23 +30,8 @@ AllUnread (l ∷ ls) = MatchBool (passed_over l.text) (Unit {0}) (said_by cells 
 
 -- a call that does not say which symbols the script is about
 abbrev pub other_call : {S : Type 0} → Saying S → Bool
-other_call (say_apart c) = true
 other_call (say_symbols k) = false
-other_call (say_code p) = true
-other_call (say_row r) = true
-other_call (say_policy p) = true
-other_call (say_memory ws ss) = true
-other_call (say_use w) = true
-other_call (say_open b s n) = true
-other_call (say_receive b s p y) = true
-other_call (say_packet s bs) = true
-other_call (say_run s bs) = true
-other_call say_solve = true
-other_call (say_show p w) = true
-other_call (say_close w) = true
-other_call (say_renew s) = true
-other_call say_figure = true
-other_call say_grid = true
+other_call s = true
 
 -- what a line is that comes before any call, when symbols are cells
 abbrev pub Begins : ℕ → List ℕ → FirstLine → Type 0

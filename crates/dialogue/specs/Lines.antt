@@ -1,6 +1,6 @@
 -- The lines of a script.
 --
---   Cut           a text is cut behind its first line, which may lack its newline
+--   CutAt, Cut    a text is cut behind its first line, which may lack its newline
 --   Numbered      a line with its number
 --   Cuts          so many lines are cut off a text
 --   NextLine      the next line of a script with its number, and what is left behind it

@@ -4,16 +4,17 @@
 --   line          how the program answers a line
 --   Part          the part of a script that is read so far: its codes, its calls, the answers to its lines, and what is in hand
 --   part          that of the program
---   fresh         nothing is read yet
+--   nothing_held, fresh      nothing is read yet
 --   after         a part with more calls and answers, and other things in hand
 --   say, ask      a line that is answered at once, and one by a call on the block in use
---   with_code, with_policy, with_memory, with_used, with_places       other things in hand
+--   on            a call on one of the two blocks
+--   with_code, with_policy, with_memory, with_used, with_places, holding      other things in hand
 --   made          a code that is made is in hand from then on, a refused one leaves the one before
 --   handed        a length of memory that is handed in, at most 1,000,000
---   rows_of, needed        the memory that a solve is handed: what was said, else what the code in hand needs
+--   rows_in, rows_of, needed_or, needed      the memory that a solve is handed: what was said, else what the code in hand needs
 --   hand_of       whose permit a call is made under
---   places_on     the most places that a block on a side can have
---   widened       the same after an open
+--   places_by, places_on     the most places that a block on a side can have
+--   widened_by, widened      the same after an open
 --   marks         for each place from p on its mark and a show under the block's own permit
 --   taken         what a line that says this makes of the part before it
 use Rattle.std.specs.Prelude.{ℕ, zero, suc, ◌+◌, ◌*◌, List, [], ◌∷◌, ◌++◌, length, map, Some, None, Ok, Err, vec_items, string_bytes, codes, min, max, Option, Result, cond, is_some}

@@ -1,7 +1,7 @@
 -- What a whole script is answered.
 --
 --   next, ReadsOne, Reads    what the lines make of the part of a script before them
---   places_of, places_asked, words_asked, symbols_asked      the memory that calls ask for
+--   places_of, words_of, symbols_of, places_asked, words_asked, symbols_asked      the memory that calls ask for
 --   rest_after, first_text, lines_text, left_text      the lines that answer, by the log of a session
 --   ReadAll       the lines of a text are read
 --   Performed, AnsweredIn    the lines of a script about one kind of symbols are answered: its calls are those of a session
@@ -52,39 +52,15 @@ module _ {S : Type 0} (sp : Spelling S) where
 -- the memory that calls ask for: a table for each granted open, and for solves as much as the greediest asks for
 abbrev pub places_of : {S : Type 0} → Order S → ℕ
 places_of (order.Open b s n) = cond (is_some (open_refusal b s n)) 0 n
-places_of (order.Receive b s p y) = 0
-places_of (order.Packet s bs) = 0
-places_of (order.Run s bs) = 0
-places_of (order.Solve c p ws ss) = 0
-places_of (order.Show p hand) = 0
-places_of (order.Close hand) = 0
-places_of (order.Renew s) = 0
-places_of order.Figure = 0
-places_of (order.Mark p) = 0
+places_of o = 0
 
 abbrev pub words_of : {S : Type 0} → Order S → ℕ
-words_of (order.Open b s n) = 0
-words_of (order.Receive b s p y) = 0
-words_of (order.Packet s bs) = 0
-words_of (order.Run s bs) = 0
 words_of (order.Solve c p ws ss) = ws
-words_of (order.Show p hand) = 0
-words_of (order.Close hand) = 0
-words_of (order.Renew s) = 0
-words_of order.Figure = 0
-words_of (order.Mark p) = 0
+words_of o = 0
 
 abbrev pub symbols_of : {S : Type 0} → Order S → ℕ
-symbols_of (order.Open b s n) = 0
-symbols_of (order.Receive b s p y) = 0
-symbols_of (order.Packet s bs) = 0
-symbols_of (order.Run s bs) = 0
 symbols_of (order.Solve c p ws ss) = ss
-symbols_of (order.Show p hand) = 0
-symbols_of (order.Close hand) = 0
-symbols_of (order.Renew s) = 0
-symbols_of order.Figure = 0
-symbols_of (order.Mark p) = 0
+symbols_of o = 0
 
 abbrev pub places_asked : {S : Type 0} → List (Call S) → ℕ
 places_asked [] = 0

@@ -1,7 +1,7 @@
 -- How the symbols of a script are written.
 --
 --   Spelling      what a word writes, and how a symbol is written: in a script, and for people
---   bit_of, word_from, word_of, cell_of_word, dated_from, dated_of      the symbol of a word, none where it writes none
+--   bit_of, word_from, word_in, word_of, cell_of_word, dated_from, dated_of      the symbol of a word, none where it writes none
 --   put_before, trimmed      bytes without the zeros at their end
 --   bit_text, word_text, cell_text, dated_text, cell_plain, dated_plain      the text of a symbol
 --   bits, words, cells, dated               the spellings of the kinds

@@ -1,8 +1,10 @@
 -- The lines that tell the answers of a session's calls.
 --
---   granted_or    the answer that is told behind `granted`, or the refusal
---   number_text, layer_text, report_text, unsolved_text      the parts of a refusal and of a solve's answer
---   refused, ran_text, solved_text          the answer of a call
+--   number_text   a refusal by its number and its values
+--   granted       the answer of a call that gives nothing
+--   layer_meaning, layer_name, packed_text, ran_text      of packets as bytes
+--   report_text, solved_text                of a solve
+--   shown_text    of a show
 --   entry_rest, entry_text                  the line that tells the answer of a call of this word
 --   bar           the reception figure as a bar of ten
 --   place_rest, places_text, grid_text      a block for people: its figure, and each place
