@@ -191,10 +191,12 @@ class Scribe:
         return self.rng.random() < likely
 
     def symbol_word(self, value):
-        if self.rng.randrange(self.seldom) == 0:
-            other = self.rng.choice(list(KINDS.values()))
-            return other.write(self.rng.getrandbits(other.bits))
-        return self.kind.write(value)
+        """A symbol of the script's kind; seldom one of any kind, or one that is a digit too short or too long."""
+        if self.rng.randrange(self.seldom):
+            return self.kind.write(value)
+        other = self.rng.choice([*KINDS.values(), self.kind, self.kind])
+        word = other.write(self.rng.getrandbits(other.bits))
+        return self.rng.choice([word, word[:-1] or "-", word[1:] or "-", word + "0", ":" + word, word.upper()])
 
     def start(self):
         if self.chance(0.05):
