@@ -175,7 +175,9 @@ class Scribe:
         self.rng, self.lines = rng, []
         self.kind_word = rng.choice(["bit", "bit", "word", "cell", "cell", "cell", "dated"])
         self.kind = KINDS[self.kind_word.encode()]
-        self.large = rng.randrange(60) == 0
+        self.large = rng.randrange(40) == 0
+        # how seldom a packet goes wrong, so that large blocks can be whole
+        self.seldom = 5000 if self.large else 60
         self.noise = rng.choice([0, 0, 0.03, 0.03, 0.2])
         self.code = None
         self.used = 1
@@ -189,10 +191,12 @@ class Scribe:
         return self.rng.random() < likely
 
     def symbol_word(self, value):
-        if self.chance(0.01):
-            other = self.rng.choice(list(KINDS.values()))
-            return other.write(self.rng.getrandbits(other.bits))
-        return self.kind.write(value)
+        """A symbol of the script's kind; seldom one of any kind, or one that is a digit too short or too long."""
+        if self.rng.randrange(self.seldom):
+            return self.kind.write(value)
+        other = self.rng.choice([*KINDS.values(), self.kind, self.kind])
+        word = other.write(self.rng.getrandbits(other.bits))
+        return self.rng.choice([word, word[:-1] or "-", word[1:] or "-", word + "0", ":" + word, word.upper()])
 
     def start(self):
         if self.chance(0.05):
@@ -247,7 +251,7 @@ class Scribe:
 
     def packet_hex(self, place):
         block, _, n, word, _ = self.blocks[self.used]
-        told = place if self.chance(0.99) else min(n, 512) + self.rng.randrange(2)
+        told = place if self.rng.randrange(self.seldom) else min(n, 512) + self.rng.randrange(2)
         return f"{(block % 4096) << 20 | told:08x}" + self.kind.write(word[place])
 
     def hear(self, places):
@@ -259,16 +263,16 @@ class Scribe:
             count = 1
             if self.kind_word == "cell" and self.chance(0.7 if self.large else 0.3):
                 count = rng.choice([1, 1, rng.randrange(1, 70 if self.large else 9)])
-                tail = rng.choice([""] * 12 + ["00", "005000", "00" * 67])
+                tail = "" if rng.randrange(300 if self.large else 5) else rng.choice(["00", "005000", "00" * 67])
                 packets = "".join(map(self.packet_hex, places[at:at + count])) + tail
                 if count == 1:
-                    self.line(f"packet {mostly(rng, stamp, 40)} {packets}")
+                    self.line(f"packet {mostly(rng, stamp, self.seldom)} {packets}")
                 else:
-                    self.line(f"run {mostly(rng, stamp, 40)} {packets}")
+                    self.line(f"run {mostly(rng, stamp, self.seldom)} {packets}")
             else:
                 place = places[at]
-                wrong = [mostly(rng, value, 60) for value in (block, stamp, place)]
-                self.line(f"receive {wrong[0]} {wrong[1]} {wrong[2]} {self.symbol_word(word[place])}")
+                heard = " ".join(str(mostly(rng, value, self.seldom)) for value in (block, stamp, place))
+                self.line(f"receive {heard} {self.symbol_word(word[place])}")
             at += count
 
     def solve(self):
