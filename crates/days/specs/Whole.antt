@@ -9,8 +9,8 @@ use Rattle.method.specs.Method.{Choice}
 use Rattle.receiver.specs.Calls.{open_refusal}
 use Rattle.receiver.specs.Blocks.{opened}
 use Rattle.receiver.specs.Stands.{opening}
-use Rattle.days.specs.declared.day.Unbegun.{Unbegun}
-use Rattle.days.specs.declared.day.Unbegun.TheVariants.{Refused, LogLength}
+use Rattle.days.specs.declared.whole.Unbegun.{Unbegun}
+use Rattle.days.specs.declared.whole.Unbegun.TheVariants.{Refused, LogLength}
 use Rattle.days.specs.declared.order.Order.{Order}
 use Rattle.days.specs.declared.order.Entry.{Entry}
 use Rattle.days.specs.Days.{now_of, day_on, AllAnswer, DayTrue}

@@ -1,7 +1,7 @@
 use Rattle.std.proofs.Common.{◌≡◌, length, None, sym, rules}
 use Rattle.receiver.specs.Calls.{open_refusal}
 use Rattle.receiver.specs.Stands.{opening}
-use Rattle.days.proofs.day.day.Goals as goal
+use Rattle.days.proofs.whole.day.Goals as goal
 
 pub returns-clause-day : goal.returns-clause-day
 returns-clause-day g c =

@@ -4,7 +4,7 @@ use Rattle.receiver.specs.History.{Opened, Event}
 use Rattle.receiver.specs.Stands.{Stands}
 use Rattle.receiver.specs.View.{model}
 use Rattle.days.specs.Days.{now_of, day_on, AllAnswer, Cleared}
-use Rattle.days.proofs.day.serve.Given as goal
+use Rattle.days.proofs.whole.serve.Given as goal
 
 abbrev pub invariant-loop-i : goal.invariant-loop-i
 invariant-loop-i g l =

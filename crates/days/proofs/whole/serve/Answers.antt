@@ -5,7 +5,7 @@ use Rattle.receiver.specs.View.{model}
 use Rattle.days.specs.Days.{now_of, on, day_on, Answers, AllAnswer}
 use Rattle.days.proofs.Clearing.{cleared_then}
 use Rattle.days.proofs.Obeying.{day_more, all_more, day_true}
-use Rattle.days.proofs.day.serve.Goals as goal
+use Rattle.days.proofs.whole.serve.Goals as goal
 
 pub loop-i-init : goal.loop-i-init
 loop-i-init g c = ([], refl, λ o s. s, tt, inl refl, inl refl)
