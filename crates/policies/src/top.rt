@@ -19,11 +19,16 @@ pub(crate) fn raise(counts: &mut Numbers, c: usize)
     counts[c] += 1;
 }
 
-// The active column of greatest weight, the lowest on a tie.
+// The active column of greatest weight, the lowest on a tie. The fold itself asks whether a column is active: behind a `filter`
+// the pass takes longer where most are.
 pub(crate) fn top(weights: &Numbers, active: &Columns) -> Option<usize>
     ensures { result ≡ top (at weights.now) (shown active.now) }
 {
-    active
-        .iter()
-        .reduce(|b, c| if weights[b] >= weights[c] { b } else { c })
+    (0..active.width).fold(None, |best, c| {
+        if !active.has(c) || best.is_some_and(|b| weights[b] >= weights[c]) {
+            best
+        } else {
+            Some(c)
+        }
+    })
 }
