@@ -25,7 +25,10 @@ pub(crate) fn turned(z: usize, r: usize, s: usize) -> usize
 pub(crate) fn filled_squares(entries: &[i16]) -> usize
     ensures { result ≡ filled_squares entries.now }
 {
-    entries.iter().filter(|e| shift(**e).is_some()).count()
+    entries
+        .iter()
+        .map(|e| usize::from(shift(*e).is_some()))
+        .sum()
 }
 
 fn entry_fits(z: usize, e: i16) -> bool

@@ -34,8 +34,8 @@ impl<'a, S: Symbol> Block<'a, S> {
     {
         self.marks.received[..self.marks.n]
             .iter()
-            .filter(|got| **got)
-            .count() as u32
+            .map(|got| u32::from(*got))
+            .sum()
     }
 
     // Makes each missing place zero.
