@@ -1,7 +1,9 @@
 -- Hex digits: what bytes print, and that it reads back as the same bytes.
 use Rattle.std.proofs.Common.{◌≡◌, ℕ, suc, ◌+◌, ◌*◌, ◌/◌, ◌%◌, ◌<◌, List, [], ◌∷◌, ◌++◌, length, get_or, drop, Some, None, Option, sym, refl, ap, ◌∙◌, append_assoc, arith}
 use Rattle.std.specs.Char.{digit_char}
+use Rattle.std.specs.Str.{IsAscii}
 use Rattle.std.proofs.lemmas.Bool.Decides.{nat_tests}
+use Rattle.std.proofs.lemmas.Str.Ascii.{IsAscii-nil, IsAscii-cons}
 use Rattle.script.specs.Hex.{digit_value, byte_of, joined, before, digits_of, pairs_of, hex_of, bytes_of}
 
 digit_back : (d : ℕ) → d < 16 → digit_value (digit_char d) ≡ Some d
@@ -25,6 +27,21 @@ length_digits_of (b ∷ bs) = omega (arith, length_digits_of bs)
 pub hex_back : (bytes : List ℕ) → ((i : ℕ) → get_or bytes i 0 < 256) → bytes_of (hex_of bytes) ≡ Some bytes
 hex_back [] small = refl
 hex_back (b ∷ bs) small = grind (arith, nat_tests, pairs_back (b ∷ bs) small, length_digits_of (b ∷ bs))
+
+pub digits_append : (xs ys : List ℕ) → digits_of (xs ++ ys) ≡ digits_of xs ++ digits_of ys
+digits_append [] ys = refl
+digits_append (x ∷ xs) ys = ap (λ l. digit_char (x / 16) ∷ digit_char (x % 16) ∷ l) (digits_append xs ys)
+
+digit_ascii : (d : ℕ) → d < 16 → digit_char d < 128
+digit_ascii d small = grind (arith, nat_tests)
+
+-- digits are text
+pub digits_ascii : (bytes : List ℕ) → ((i : ℕ) → get_or bytes i 0 < 256) → IsAscii (digits_of bytes)
+digits_ascii [] small = IsAscii-nil
+digits_ascii (b ∷ bs) small =
+    let byte = small 0 in
+    let rest = IsAscii-cons (digit_char (b % 16)) (digits_of bs) (digit_ascii (b % 16) (omega arith)) (digits_ascii bs (λ k. small (suc k))) in
+    IsAscii-cons (digit_char (b / 16)) (digit_char (b % 16) ∷ digits_of bs) (digit_ascii (b / 16) (omega (arith, byte))) rest
 
 -- bytes that were read before others
 abbrev pub after : List ℕ → Option (List ℕ) → Option (List ℕ)

@@ -1,18 +1,59 @@
 // Bytes as text: two lowercase hex digits to a byte, and `-` for no bytes.
-ghost use Rattle.std.specs.Prelude.{◌≡◌, ◌<◌, IfOk, Some, vec_items, string_bytes};
+ghost use Rattle.std.specs.Prelude.{◌≡◌, ◌*◌, ◌<◌, ◌≤◌, length, take, IfOk, Some, vec_items, string_bytes};
 ghost use Rattle.std.specs.Fmt.{WritesOnOk};
 ghost use Rattle.std.specs.Option.{option_map};
 ghost use Rattle.std.specs.Char.{digit_char};
-ghost use Rattle.script.specs.Hex.{digit_value, byte_digits, byte_of, pairs_of, mark, hex_of, bytes_of};
+ghost use Rattle.script.specs.Hex.{digit_value, byte_digits, byte_of, digits_of, pairs_of, mark, hex_of, bytes_of};
 
 use std::alloc::{AllocError, Global};
 use std::fmt;
+use std::str::from_utf8;
+
+// How many bytes are written at once.
+const AT_ONCE: usize = 32;
+
+// The character of a digit.
+fn digit(value: u8) -> u8
+    requires { value < 16 }
+    ensures { result ≡ digit_char value }
+{
+    if value < 10 {
+        b'0' + value
+    } else {
+        b'a' + (value - 10)
+    }
+}
+
+// The digits of a few bytes, and zeros behind them.
+fn digits(bytes: &[u8]) -> [u8; 64]
+    requires { length bytes.now ≤ 32 }
+    ensures { take (2 * length bytes.now) result ≡ digits_of bytes.now }
+{
+    let mut text = [0; 64];
+    for (i, byte) in bytes.iter().enumerate() {
+        text[2 * i] = digit(*byte / 16);
+        text[2 * i + 1] = digit(*byte % 16);
+    }
+    text
+}
+
+// Writes the digits of a few bytes, all at once: written one by one they take twice the time.
+fn write_few<W: fmt::Write>(f: &mut fmt::Formatter<W>, bytes: &[u8]) -> fmt::Result
+    requires { length bytes.now ≤ 32 }
+    ensures { WritesOnOk W.write_str_gives f.old result (digits_of bytes.now) f.new }
+{
+    let text = digits(bytes);
+    let Ok(text) = from_utf8(&text[..2 * bytes.len()]) else {
+        unreachable()
+    };
+    f.write_str(text)
+}
 
 // Writes the two digits of a byte.
 pub(crate) fn write_byte<W: fmt::Write>(f: &mut fmt::Formatter<W>, byte: u8) -> fmt::Result
     ensures { WritesOnOk W.write_str_gives f.old result (byte_digits byte) f.new }
 {
-    write!(f, "{byte:02x}")
+    write_few(f, &[byte])
 }
 
 // What stands before the digits: `-` where there are none.
@@ -34,8 +75,8 @@ impl fmt::Display for Hex<'_> {
 
     fn fmt<W: fmt::Write>(&self, f: &mut fmt::Formatter<W>) -> fmt::Result {
         f.write_str(mark(self.0))?;
-        for byte in self.0 {
-            write_byte(f, *byte)?;
+        for few in self.0.chunks(AT_ONCE) {
+            write_few(f, few)?;
         }
         Ok(())
     }
