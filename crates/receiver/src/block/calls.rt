@@ -80,7 +80,7 @@ impl<'a, S: Symbol> Block<'a, S> {
         ensures kept { is_ok result ≡ false → into.new ≡ into.old }
         ensures history { GoesOn S.Symbol.kind (model self.now) (show_event permit.now place into.new result ∷ []) (model self.now) }
     {
-        *into = *self.lent(permit, place)?;
+        *into = *self.at(permit, place)?;
         Ok(())
     }
 
@@ -89,11 +89,11 @@ impl<'a, S: Symbol> Block<'a, S> {
         ensures step { Step S.Symbol.kind (model self.now) (shown_event permit.now place result) (model self.now) }
         ensures history { GoesOn S.Symbol.kind (model self.now) (shown_event permit.now place result ∷ []) (model self.now) }
     {
-        self.lent(permit, place).copied()
+        self.at(permit, place).copied()
     }
 
     // The packet of a place where it lies, under a permit: what `show` and `shown` copy.
-    fn lent(&self, permit: &Permit, place: u32) -> Result<&S, Fault>
+    fn at(&self, permit: &Permit, place: u32) -> Result<&S, Fault>
         ensures { MatchResult result (λ x. Step S.Symbol.kind (model self.now) (shown_event permit.now place (Ok x.now)) (model self.now)) (λ f. Step S.Symbol.kind (model self.now) (shown_event permit.now place (Err f)) (model self.now)) }
     {
         if !self.owns(permit) {
