@@ -1,7 +1,7 @@
 // The calls on a block, all but solve. Each contract says what the call does (step) and that the promise over all
 // histories goes on with it (history); lent says that the block still holds the caller's table,
 // which of a struct that holds a `&mut` nothing else does.
-ghost use Rattle.std.specs.Prelude.{◌≡◌, false, [], ◌∷◌, length, is_ok, IfErr, None};
+ghost use Rattle.std.specs.Prelude.{◌≡◌, false, [], ◌∷◌, length, is_ok, IfErr, MatchResult, Ok, Err, None};
 ghost use Rattle.receiver.specs.Calls.{open_refusal};
 ghost use Rattle.packets.specs.Figure.{percent};
 ghost use Rattle.receiver.specs.Blocks.{opened, told_refusal, received_count, mark_at};
@@ -80,7 +80,7 @@ impl<'a, S: Symbol> Block<'a, S> {
         ensures kept { is_ok result ≡ false → into.new ≡ into.old }
         ensures history { GoesOn S.Symbol.kind (model self.now) (show_event permit.now place into.new result ∷ []) (model self.now) }
     {
-        *into = self.shown(permit, place)?;
+        *into = *self.at(permit, place)?;
         Ok(())
     }
 
@@ -89,14 +89,18 @@ impl<'a, S: Symbol> Block<'a, S> {
         ensures step { Step S.Symbol.kind (model self.now) (shown_event permit.now place result) (model self.now) }
         ensures history { GoesOn S.Symbol.kind (model self.now) (shown_event permit.now place result ∷ []) (model self.now) }
     {
+        self.at(permit, place).copied()
+    }
+
+    // The packet of a place where it lies, under a permit: what `show` and `shown` copy.
+    fn at(&self, permit: &Permit, place: u32) -> Result<&S, Fault>
+        ensures { MatchResult result (λ x. Step S.Symbol.kind (model self.now) (shown_event permit.now place (Ok x.now)) (model self.now)) (λ f. Step S.Symbol.kind (model self.now) (shown_event permit.now place (Err f)) (model self.now)) }
+    {
         if !self.owns(permit) {
             return Err(Fault::NotItsPermit(self.marks.stamp));
         }
         let table = &self.table[..self.marks.n];
-        table
-            .get(place as usize)
-            .copied()
-            .ok_or(Fault::NoPlace(place))
+        table.get(place as usize).ok_or(Fault::NoPlace(place))
     }
 
     // Takes the permit back and makes every missing place zero. Refused, it gives the permit back.
