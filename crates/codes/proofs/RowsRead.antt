@@ -1,6 +1,7 @@
 -- A row read column by column: one step, and what a `for` over a row knows.
 --
 --   rest_some, place_small     a column that is read: what is left from its place on, and how small the place is
+--   place_below, column_small  a column that is asked for by its place: the place lies within the row, and the column within the code
 --   left_one                   so many columns from a place on: the one there, and then one fewer
 --   row_left, row_so_far       in `for c in code.row(r)`: the row is what was yielded and what is left, so what was yielded is its front
 --   row_place, row_small       the next column: where it stands in the row, and how small it is
@@ -35,6 +36,14 @@ row_few k r =
 
 pub place_small : (k : Matrix) → Lawful k → (r i c : ℕ) → Some c ≡ column_at k r i → i < 4096
 place_small k ok r i c e = omega (arith, slice_get_within (row_at k r) i c (sym e), row_few k r, ok.few_ones)
+
+pub place_below : (k : Matrix) (r i c : ℕ) → Some c ≡ column_at k r i → i < weight k r
+place_below k r i c e = slice_get_within (row_at k r) i c (sym e)
+
+pub column_small : (k : Matrix) → Lawful k → (r i c : ℕ) → Some c ≡ column_at k r i → c < 512
+column_small k ok r i c e =
+    let in_row = All-get_or (λ c. c < k.width) (row_at k r) i 0 (place_below k r i c e) (row_lawful k ok r).within in
+    omega (arith, in_row, get_or_from_slice_get (row_at k r) i c 0 (sym e), ok.few_columns)
 
 left_after : {S : Type 0} (left : S → List ℕ) (s t : S) (xs : List ℕ) → Yields (YieldsFirst left) s xs t → left s ≡ xs ++ left t
 left_after left s t [] y = ap left y
