@@ -33,6 +33,7 @@ impl<S: Symbol> Elimination<'_, S> {
     fn settle_all(&mut self)
         requires { Room self.old }
         ensures memory { SameMemory self.old self.new }
+        ensures few { self.new.additions ≤ 1000000 }
         ensures state { bare S.Symbol.kind self.new ≡ settled S.Symbol.kind (bare S.Symbol.kind self.old) }
     {
         // By place, since a step changes the value that the list is in.
@@ -47,6 +48,7 @@ impl<S: Symbol> Elimination<'_, S> {
         requires going { Going S.Symbol.kind self.old }
         requires wide { self.old.active.width ≡ (C.Rows.matrix code.now).width }
         ensures memory { SameMemory self.old self.new }
+        ensures few { self.new.additions ≤ 1000000 }
         ensures state { view S.Symbol.kind self.new policy.new ≡ settled S.Symbol.kind (steps S.Symbol.kind (P.Policy.choice (C.Rows.matrix code.now)) (C.Rows.matrix code.now).width (view S.Symbol.kind self.old policy.old)) }
     {
         self.peel(code, policy);
