@@ -21,17 +21,18 @@ fn column_in(z: usize, r: usize, j: usize, e: i16) -> Option<usize>
     shift(e).map(|s| j * z + turned(z, r, usize::from(s)))
 }
 
-// The column at place i of what row r holds of a line of squares.
+// The column at place i of what row r holds of a line of squares. The squares before it are only counted, since a column takes
+// two divisions.
 fn pick(line: &[i16], z: usize, r: usize, i: usize) -> Option<usize>
     requires small { z ≤ 512 }
     requires within { length line.now * z ≤ 512 }
     requires right { (k : ℕ) → k < length line.now → entry_fits z (slice_index_or line.now k (pos 0)) ≡ true }
     ensures { result ≡ slice_get (line_row z r 0 line.now) i }
 {
-    line.iter()
-        .enumerate()
-        .filter_map(|(j, e)| column_in(z, r, j, *e))
-        .nth(i)
+    let j = (0..line.len())
+        .filter(|j| shift(line[*j]).is_some())
+        .nth(i)?;
+    column_in(z, r, j, line[j])
 }
 
 impl<'a> QuasiCyclic<'a> {
