@@ -4,7 +4,6 @@
 --   filled           the ones in each row of a square
 --   turned           the column that row r holds within a square of shift s
 --   square_row       what row r holds of a square that begins at column `start`
---   column_in        the column that row r holds of the square at a place of its line
 --   line_row         what row r holds of squares side by side
 --   line_of          the base entries of the squares side by side that hold row r
 --   quasi_cyclic     the matrix of a x b squares, each of z rows and z columns
@@ -14,7 +13,6 @@
 --   filled_squares   how many squares are not empty
 --   judged_entries   the answer of a making
 use Rattle.std.specs.Prelude.{ℕ, ◌+◌, ◌*◌, ◌/◌, ◌%◌, Bool, cond, ◌&&◌, List, [], ◌∷◌, ◌++◌, length, take, drop, ℤ, pos, negsuc, Some, None, sum_by, Option, Result, ◌==◌, nat_le, nat_lt}
-use Rattle.std.specs.Option.{option_map}
 use Rattle.codes.specs.Matrix.{Matrix}
 use Rattle.codes.specs.Refusals.{Cause, judged}
 use Rattle.codes.specs.Tables.{table}
@@ -33,9 +31,6 @@ turned z r s = (r % z + s) % z
 abbrev pub square_row : ℕ → ℕ → ℕ → Option ℕ → List ℕ
 square_row z r start (Some s) = (start + turned z r s) ∷ []
 square_row z r start None = []
-
-abbrev pub column_in : ℕ → ℕ → ℕ × ℤ → Option ℕ
-column_in z r p = option_map (λ s. p.0 * z + turned z r s) (shift_of p.1)
 
 abbrev pub line_row : ℕ → ℕ → ℕ → List ℤ → List ℕ
 line_row z r start [] = []

@@ -3,7 +3,7 @@ ghost use Rattle.std.specs.Prelude.{◌≡◌, ℕ, ◌*◌, ◌<◌, ◌≤◌,
 ghost use Rattle.std.specs.List.{slice_get};
 ghost use Rattle.codes.specs.Matrix.{height, ones};
 ghost use Rattle.quasi_cyclic.specs.Circulants.{circulant_matrix};
-ghost use Rattle.quasi_cyclic.specs.Entries.{column_in, line_row, entry_fits};
+ghost use Rattle.quasi_cyclic.specs.Entries.{line_row, entry_fits};
 ghost use Rattle.quasi_cyclic.specs.EntryLaws.{circulant_lawful};
 ghost use Rattle.quasi_cyclic.specs.Lines.{Line};
 
@@ -11,28 +11,24 @@ use crate::circulant::QuasiCyclic;
 use crate::entries::{filled_squares, shift, turned};
 use codes::{Code, Rows, Shape, Squares};
 
-// The column that row r holds of the square at place j of its line, none where the square is empty.
-fn column_in(z: usize, r: usize, j: usize, e: i16) -> Option<usize>
-    requires small { z ≤ 512 }
-    requires within { j * z ≤ 512 }
-    requires right { entry_fits z e ≡ true }
-    ensures { result ≡ column_in z r (j, e) }
-{
-    shift(e).map(|s| j * z + turned(z, r, usize::from(s)))
-}
-
 // The column at place i of what row r holds of a line of squares. The squares before it are only counted, since a column takes
-// two divisions.
+// two divisions. By a loop, which takes fewer steps for each of them than `filter` and `nth`.
 fn pick(line: &[i16], z: usize, r: usize, i: usize) -> Option<usize>
     requires small { z ≤ 512 }
     requires within { length line.now * z ≤ 512 }
     requires right { (k : ℕ) → k < length line.now → entry_fits z (slice_index_or line.now k (pos 0)) ≡ true }
     ensures { result ≡ slice_get (line_row z r 0 line.now) i }
 {
-    let j = (0..line.len())
-        .filter(|j| shift(line[*j]).is_some())
-        .nth(i)?;
-    column_in(z, r, j, line[j])
+    let mut left = i;
+    for (j, e) in line.iter().enumerate() {
+        if let Some(s) = shift(*e) {
+            if left == 0 {
+                return Some(j * z + turned(z, r, usize::from(s)));
+            }
+            left -= 1;
+        }
+    }
+    None
 }
 
 impl<'a> QuasiCyclic<'a> {
