@@ -14,6 +14,6 @@ pub returns : goal.returns
 returns c =
     let ws = c.args.set.now in
     let counted =
-        sum_by_from_yields_List ones ws c.map.result _ c.sum.ensures.ran (YieldsList-from_map _ ones (YieldsList-from_slice ws cc) c.map.ensures.closure (λ x r q k. search (rules, tests)))
-        ∙ ones_all ws (λ i. omega arith) in
+    sum_by_from_yields_List ones ws c.map.result _ c.sum.ensures.ran (YieldsList-from_map _ ones (YieldsList-from_slice ws cc) c.map.ensures.closure (λ x r q k. search (rules, tests)))
+    ∙ ones_all ws (λ i. omega arith) in
     omega (arith, counted)
