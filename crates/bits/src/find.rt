@@ -1,30 +1,17 @@
 // What a set holds: its least number, the next one, the only one, and how many there are.
-ghost use Rattle.std.specs.Prelude.{◌≡◌, ℕ, ◌*◌, ◌/◌, ◌%◌, ◌^◌, ◌<◌, ◌≤◌, length, slice_index, IfNone, IfSome};
+ghost use Rattle.std.specs.Prelude.{◌≡◌, ℕ, ◌*◌, ◌/◌, ◌%◌, ◌^◌, ◌<◌, ◌≤◌, slice_index, IfNone, IfSome};
 ghost use Rattle.bits.specs.Sets.{holds, members, Least, Alone, from_on};
 
 use crate::set::{Set, flip};
 
-// The first of these words that is not 0, with its place.
-fn first_filled(words: &[u64]) -> Option<(usize, &u64)>
-    ensures none { IfNone result ((k : ℕ) → slice_index words.now k ≡ 0) }
-    ensures before { IfSome result (λ f. (k : ℕ) → k < f.0 → slice_index words.now k ≡ 0) }
-    ensures found { IfSome result (λ f. (f.0 < length words.now) × ((f.1.now ≡ slice_index words.now f.0) × (0 < f.1.now))) }
-{
-    words.iter().enumerate().find(|(_, word)| **word != 0)
-}
-
-// The first word from i on that is not 0, with its place: those before it are cut off, since `skip` would go over them at each step.
+// The first word from i on that is not 0, with its place.
 fn first_word(set: &Set, i: usize) -> Option<(usize, &u64)>
     ensures none { IfNone result ((k : ℕ) → i ≤ k → slice_index set.now k ≡ 0) }
     ensures before { IfSome result (λ f. (k : ℕ) → i ≤ k → k < f.0 → slice_index set.now k ≡ 0) }
     ensures found { IfSome result (λ f. (i ≤ f.0) × (f.1.now ≡ slice_index set.now f.0) × (0 < f.1.now)) }
     ensures end { IfSome result (λ f. f.0 < 8) }
 {
-    if i >= set.len() {
-        return None;
-    }
-    let (k, word) = first_filled(&set[i..])?;
-    Some((i + k, word))
+    set.iter().enumerate().skip(i).find(|(_, word)| **word != 0)
 }
 
 // What is left of a number's word from the number on, 0 past the end of the set.
