@@ -7,5 +7,6 @@ use crate::code::Rows;
 pub fn scan<C: Rows>(code: &C, r: usize, c: usize) -> bool
     ensures { result ≡ holds (C.Rows.matrix code.now) r c }
 {
-    code.row(r).any(|k| k == c)
+    let mut columns = code.row(r);
+    columns.any(|k| k == c)
 }

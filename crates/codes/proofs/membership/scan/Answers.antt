@@ -11,5 +11,5 @@ pub returns : goal.returns
 returns g c =
     let m = g.C.Rows.matrix in
     let row = row_at (m c.args.code.now) c.args.r in
-    any_from_yields_List (λ k. eqb k c.args.c) c.any.new.self _ _ c.any.ensures.ran (YieldsList-from_first (λ x. x) (columns_left m) row c.row.ensures) (λ x b q k. search (rules, tests))
+    any_from_yields_List (λ k. eqb k c.args.c) c.any.new.self _ _ c.any.ensures.ran (YieldsList-from_first (λ x. x) (columns_left m) row c.row-columns.ensures) (λ x b q k. search (rules, tests))
     ∙ member_any c.args.c row
