@@ -23,6 +23,6 @@ pub returns : goal.returns
 returns g c =
     let row = row_at (g.C.Rows.matrix c.args.code.now) c.args.r in
     let pair =
-        pair_of_two _ _ c.filter-columns.result c.next.new.self c.in_ok-x.x c.in_ok-x.ensures.steps c.next-2.new.self c.in_ok-y.y c.next-3.new.self c.in_ok-y.ensures.steps c.next-3.result c.next-3.ensures.steps c.is_none.result c.is_none.ensures
-        (row_marked g.C.Rows.matrix (shown c.args.active.now) row c.row.ensures c.filter-columns.ensures.source c.filter-columns.ensures.closure (λ x b q k. search (rules, tests))) in
+    pair_of_two _ _ c.filter-columns.result c.next.new.self c.in_ok-x.x c.in_ok-x.ensures.steps c.next-2.new.self c.in_ok-y.y c.next-3.new.self c.in_ok-y.ensures.steps c.next-3.result c.next-3.ensures.steps c.is_none.result c.is_none.ensures
+    (row_marked g.C.Rows.matrix (shown c.args.active.now) row c.row.ensures c.filter-columns.ensures.source c.filter-columns.ensures.closure (λ x b q k. search (rules, tests))) in
     search (rules, tests, c.then_some.ensures, pair)
