@@ -33,7 +33,7 @@ pub trait Rows {
             code: self,
             r,
             next: 0,
-            left: self.weight(r),
+            end: self.weight(r),
         }
     }
 }

@@ -5,13 +5,13 @@ ghost use Rattle.codes.specs.RowsRead.{columns_left};
 
 use crate::code::Rows;
 
-// So many columns of the row, from place `next` on: each is read once, as it is asked for, and none past the end, which some codes would look for along a whole line.
+// The row from place `next` up to its end: each column is read once, as it is asked for, and none past the end, which some codes would look for along a whole line.
 #[derive(PartialEq, Eq, Debug, Drop)]
 pub struct RowColumns<'c, C> {
     pub(crate) code: &'c C,
     pub(crate) r: usize,
     pub(crate) next: usize,
-    pub(crate) left: usize,
+    pub(crate) end: usize,
 }
 
 impl<'c, C: Rows> Iterator for RowColumns<'c, C> {
@@ -22,10 +22,11 @@ impl<'c, C: Rows> Iterator for RowColumns<'c, C> {
     ghost remaining = { item_count (columns_left C.Rows.matrix) };
 
     fn next(&mut self) -> Option<usize> {
-        let left = self.left.checked_sub(1)?;
+        if self.next >= self.end {
+            return None;
+        }
         let c = self.code.column(self.r, self.next)?;
         self.next += 1;
-        self.left = left;
         Some(c)
     }
 }

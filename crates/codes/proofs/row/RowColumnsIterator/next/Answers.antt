@@ -1,4 +1,4 @@
-use Rattle.std.proofs.Common.{arith}
+use Rattle.std.proofs.Common.{◌+◌, ◌-◌, arith}
 use Rattle.codes.specs.Matrix.{row_at}
 use Rattle.codes.proofs.RowsRead.{left_one, place_small}
 use Rattle.codes.proofs.row.RowColumnsIterator.next.Goals as goal
@@ -11,4 +11,4 @@ overflow_add-self g c =
 pub returns-clause-steps : goal.returns-clause-steps
 returns-clause-steps g c =
     let s = c.args.self.now in
-    left_one (row_at (g.C.Rows.matrix s.code.now) s.r) s.next s.left _ c.in_ok-c.c (grind (arith, c.in_ok-left.ensures)) c.in_ok-c.ensures
+    left_one (row_at (g.C.Rows.matrix s.code.now) s.r) s.next (s.end - s.next) (s.end - (s.next + 1)) c.in_ok-c.c (omega arith) c.in_ok-c.ensures
