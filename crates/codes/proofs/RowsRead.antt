@@ -2,11 +2,10 @@
 --
 --   rest_some, place_small     a column that is read: what is left from its place on, and how small the place is
 --   place_below, column_small  a column that is asked for by its place: the place lies within the row, and the column within the code
---   left_one                   so many columns from a place on: the one there, and then one fewer
 --   row_left, row_so_far       in `for c in code.row(r)`: the row is what was yielded and what is left, so what was yielded is its front
 --   row_place, row_small       the next column: where it stands in the row, and how small it is
 --   row_end                    at the end of the loop all of the row was yielded
-use Rattle.std.proofs.Common.{◌≡◌, ℕ, suc, ◌+◌, ◌<◌, ◌≤◌, List, [], ◌∷◌, ◌++◌, length, get_or, take, drop, Some, sym, ap, ◌∙◌, ⊎_elim, arith}
+use Rattle.std.proofs.Common.{◌≡◌, ℕ, ◌+◌, ◌<◌, ◌≤◌, List, [], ◌∷◌, ◌++◌, length, get_or, take, drop, Some, sym, ap, ◌∙◌, ⊎_elim, arith}
 use Rattle.std.specs.Iterator.{YieldsFirst, Yields}
 use Rattle.std.specs.List.{slice_get}
 use Rattle.std.proofs.ByRecursion.{All-get_or}
@@ -22,9 +21,6 @@ use Rattle.codes.specs.RowsRead.{columns_left}
 
 pub rest_some : (xs : List ℕ) (i c : ℕ) → Some c ≡ slice_get xs i → drop i xs ≡ c ∷ drop (i + 1) xs
 rest_some xs i c e = drop_more xs i 0 (slice_get_within xs i c (sym e)) ∙ ap (λ y. y ∷ drop (i + 1) xs) (get_or_from_slice_get xs i c 0 (sym e))
-
-pub left_one : (xs : List ℕ) (i n m c : ℕ) → n ≡ suc m → Some c ≡ slice_get xs i → take n (drop i xs) ≡ c ∷ take m (drop (i + 1) xs)
-left_one xs i n m c e h = ap (λ ys. take n ys) (rest_some xs i c h) ∙ ap (λ k. take k (c ∷ drop (i + 1) xs)) e
 
 -- a row has no more columns than the code has ones
 row_few : (k : Matrix) (r : ℕ) → length (row_at k r) ≤ ones k

@@ -33,7 +33,6 @@ pub trait Rows {
             code: self,
             r,
             next: 0,
-            end: self.weight(r),
         }
     }
 }

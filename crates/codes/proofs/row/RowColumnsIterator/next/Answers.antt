@@ -1,6 +1,6 @@
-use Rattle.std.proofs.Common.{◌+◌, ◌-◌, arith}
+use Rattle.std.proofs.Common.{rules, arith}
 use Rattle.codes.specs.Matrix.{row_at}
-use Rattle.codes.proofs.RowsRead.{left_one, place_small}
+use Rattle.codes.proofs.RowsRead.{rest_some, place_small}
 use Rattle.codes.proofs.row.RowColumnsIterator.next.Goals as goal
 
 pub overflow_add-self : goal.overflow_add-self
@@ -11,4 +11,10 @@ overflow_add-self g c =
 pub returns-clause-steps : goal.returns-clause-steps
 returns-clause-steps g c =
     let s = c.args.self.now in
-    left_one (row_at (g.C.Rows.matrix s.code.now) s.r) s.next (s.end - s.next) (s.end - (s.next + 1)) c.in_ok-c.c (omega arith) c.in_ok-c.ensures
+    rest_some (row_at (g.C.Rows.matrix s.code.now) s.r) s.next c.in_ok-c.c c.in_ok-c.ensures
+
+pub returns-clause-goes : goal.returns-clause-goes
+returns-clause-goes g c =
+    let s = c.args.self.now in
+    let e = rest_some (row_at (g.C.Rows.matrix s.code.now) s.r) s.next c.in_ok-c.c c.in_ok-c.ensures in
+    search (rules, e)
