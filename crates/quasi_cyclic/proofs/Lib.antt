@@ -1,4 +1,5 @@
 pub mod BadEntries
+pub mod Crossings
 pub mod LineLaws
 pub mod Picks
 pub mod SquareLaws

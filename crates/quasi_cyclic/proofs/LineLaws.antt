@@ -39,6 +39,7 @@ module _ (a b z : ℕ) (es : List ℤ) (s : Sizes a b z (length es)) where
       right = λ k u. absurd (omega arith);
       wide = sym (ap length (table_past (a * z) (b * z) (λ r. line_row z r 0 (line_of b z es r)) r h));
       places = λ i. sym (ap (λ row. slice_get row i) (table_past (a * z) (b * z) (λ r. line_row z r 0 (line_of b z es r)) r h));
+      row = sym (table_past (a * z) (b * z) (λ r. line_row z r 0 (line_of b z es r)) r h);
     }
 
     line_at : r < a * z → Line a b z es r (line_of b z es r)
@@ -52,6 +53,7 @@ module _ (a b z : ℕ) (es : List ℤ) (s : Sizes a b z (length es)) where
           right = λ k u. ap (entry_fits z) (get_or-take b (drop (r / z * b) es) k (pos 0) (omega arith) ∙ get_or-drop (r / z * b) es k (pos 0)) ∙ all_right z 0 es e (r / z * b + k) (omega (arith, (line_within r h).0));
           wide = sym (ap length (table_at (a * z) (b * z) (λ r. line_row z r 0 (line_of b z es r)) r h) ∙ line_length z r 0 line);
           places = λ i. sym (ap (λ row. slice_get row i) (table_at (a * z) (b * z) (λ r. line_row z r 0 (line_of b z es r)) r h));
+          row = sym (table_at (a * z) (b * z) (λ r. line_row z r 0 (line_of b z es r)) r h);
         }
 
 -- the same of a code, whose ghost fields give the facts

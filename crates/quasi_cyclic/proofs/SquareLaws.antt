@@ -1,4 +1,7 @@
 -- The columns of a row, square by square.
+--
+--   line_columns_in   those of a line of squares that lie in one of them
+--   one_to_a_square   a row holds one column of each square that is not empty, and none of an empty one
 use Rattle.std.proofs.Common.{◌≡◌, ℕ, suc, ◌+◌, ◌-◌, ◌*◌, ◌/◌, ◌%◌, ◌<◌, ◌≤◌, Bool, false, eqb, List, [], ◌∷◌, ◌++◌, length, get_or, drop, ℤ, negsuc, Some, None, filter, Option, sym, refl, ap, ◌∙◌, ⊎_elim, add-mul, one-mul, arith}
 use Rattle.std.specs.List.{AllByRecursion}
 use Rattle.std.proofs.lemmas.Nat.{div-mul-add, mod_below, le-div, div_below}
@@ -38,7 +41,7 @@ module _ (z r j : ℕ) (pz : 1 ≤ z) where
       (line_row z r (j * z + z) es) (line_columns z r (j * z + z) es pz))
 
 -- of a line that begins with square j, the columns in square x
-line_columns_in : (z r j x : ℕ) (es : List ℤ) → 1 ≤ z → j ≤ x → x < j + length es → filter (λ c. eqb (c / z) x) (line_row z r (j * z) es) ≡ square_row z r (x * z) (shift_of (get_or es (x - j) (negsuc 0)))
+pub line_columns_in : (z r j x : ℕ) (es : List ℤ) → 1 ≤ z → j ≤ x → x < j + length es → filter (λ c. eqb (c / z) x) (line_row z r (j * z) es) ≡ square_row z r (x * z) (shift_of (get_or es (x - j) (negsuc 0)))
 line_columns_in z r j x [] pz l u = absurd (omega arith)
 line_columns_in z r j x (e ∷ es) pz l u =
     ⊎_elim

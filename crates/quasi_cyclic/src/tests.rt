@@ -56,3 +56,15 @@ fn read_by_rows(rt: HostRuntime) -> Result<(), Fail> {
     assert_eq!(rt; code.column(1, 0), Some(0));
     Ok(())
 }
+
+#[test]
+fn held_by_the_square_crossed(rt: HostRuntime) -> Result<(), Fail> {
+    let mut code = QuasiCyclic::smallest();
+    code.make(Squares { a: 2, b: 2, z: 3 }, &[1, -1, -1, 2])?;
+    assert!(rt; code.holds(0, 1) && code.holds(2, 0) && code.holds(3, 5) && code.holds(4, 3));
+    assert!(rt; !code.holds(0, 2) && !code.holds(0, 4) && !code.holds(3, 2) && !code.holds(4, 5));
+    assert!(rt;
+        !code.holds(0, 6) && !code.holds(5, 65535) && !code.holds(6, 0) && !code.holds(65535, 1)
+    );
+    Ok(())
+}

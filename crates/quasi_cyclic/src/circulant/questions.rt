@@ -70,4 +70,17 @@ impl<'a> Rows for QuasiCyclic<'a> {
     }
 }
 
-impl<'a> Code for QuasiCyclic<'a> {}
+impl<'a> Code for QuasiCyclic<'a> {
+    // By the one square that column c crosses in the line of row r, not by a walk along the row.
+    fn holds(&self, r: usize, c: usize) -> bool {
+        let line = self.line(r);
+        let z = self.squares.z;
+        let Some(e) = line.get(c / z) else {
+            return false;
+        };
+        let Some(s) = shift(*e) else {
+            return false;
+        };
+        turned(z, r, usize::from(s)) == c % z
+    }
+}
